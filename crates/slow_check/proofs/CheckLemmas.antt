@@ -1,7 +1,6 @@
 -- From what is found of a test for slow lines to what is answered of the files.
-use Rattle.std.proofs.Common.{◌≡◌, ℕ, ◌∙◌, Vec, Global, List, length, sym, ap, subst}
+use Rattle.std.proofs.Common.{◌≡◌, ℕ, ◌∙◌, List, length, sym, ap, subst}
 use Rattle.std.specs.List.{All}
-use Rattle.statement.specs.Netlists.{Netlist}
 use Rattle.statement.specs.Patterns.{Holds, Pattern}
 use Rattle.statement.specs.Statement.{FiveFiles}
 use Rattle.statement.specs.Faults.{universe_of}
@@ -14,7 +13,7 @@ use Rattle.good_files.specs.declared.answers.Checked.{Checked}
 use Rattle.good_files.specs.declared.answers.Checked.TheVariants.{Faults, False}
 use Rattle.good_files.specs.declared.answers.Clause.TheVariants as clause
 use Rattle.transition_files.specs.LaunchFiles.{IsLaunchFileOf}
-use Rattle.good_slow_files.specs.GoodSlowFiles.{AreSlowTotals, AreTrueSlowFaults, HasLaunchPatterns, HasSlowHolds, HasSlowScan, IsSlowTested, SlowContents, SlowTest, StandForSlow, slow_chains_in, slow_chains_said, slow_limit_said, slow_test_with}
+use Rattle.good_slow_files.specs.GoodSlowFiles.{AreSlowTotals, AreTrueSlowFaults, HasLaunchPatterns, HasSlowHolds, HasSlowScan, IsSlowTested, SlowContents, SlowTest, StandForSlow, slow_chains_said, slow_limit_said, slow_test_with}
 use Rattle.good_slow_files.specs.Clauses.{IsFalseSlowFault}
 use Rattle.good_slow_files.specs.Checks.{IsSlowAnswer, PassesWhereTrueSlow}
 use Rattle.good_slow_files.specs.Laws.{SlowCheckedIsGood}

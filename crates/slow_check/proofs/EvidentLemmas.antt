@@ -1,6 +1,6 @@
 -- What is found of a slow line's first evidence.
-use Rattle.std.proofs.Common.{◌≡◌, ◌≢◌, ℕ, ◌<◌, ◌∙◌, List, length, get_or, MatchOption, Option, option_map, Some, None, Result, Ok, Err, IfOk, sym, ap, subst, arith}
-use Rattle.std.specs.List.{All, Contains, slice_get}
+use Rattle.std.proofs.Common.{◌≡◌, ℕ, ◌∙◌, List, length, get_or, MatchOption, Option, option_map, Some, None, Result, Ok, Err, IfOk, sym, ap, subst}
+use Rattle.std.specs.List.{All, slice_get}
 use Rattle.std.proofs.lemmas.List.Elements.{All-get_or}
 use Rattle.std.proofs.lemmas.Option.{slice_get-get_or, slice_get-map}
 use Rattle.statement.specs.declared.lines.Fault.{Fault}
@@ -8,7 +8,6 @@ use Rattle.statement.specs.Netlists.{Netlist}
 use Rattle.statement.specs.Patterns.{Holds}
 use Rattle.netlist.specs.Conditions.{IsSound}
 use Rattle.netlist.specs.Holds.{AreHoldsOf}
-use Rattle.netlist.specs.Lines.{IsLineOf}
 use Rattle.redundancy_cert.specs.declared.counts.Counts.{Counts}
 use Rattle.redundancy_cert.specs.Checking.{Checking}
 use Rattle.evidence.specs.declared.kinds.Evidence.{Evidence}
@@ -19,7 +18,7 @@ use Rattle.good_files.specs.GoodFiles.{faults_in}
 use Rattle.transition_frames.specs.Frames.{frames_of, frame_fault}
 use Rattle.transition_sim.specs.Shown.{ShowsFrames}
 use Rattle.transition_report.specs.Reading.{IsTransitionEvidence}
-use Rattle.check_parts.specs.Checkers.{AreEndCounts, NamesSignals}
+use Rattle.check_parts.specs.Checkers.{NamesSignals}
 use Rattle.check_parts.specs.Firsts.{IsFirst}
 use Rattle.check_parts.proofs.FirstLemmas.{first_at, first_once, no_first}
 use Rattle.check_parts.proofs.NamedSignals.{names}

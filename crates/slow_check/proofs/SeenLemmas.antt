@@ -1,5 +1,5 @@
 -- A pattern and a point are seen in one cycle at one pin, by launch on capture.
-use Rattle.std.proofs.Common.{◌≡◌, ◌≢◌, ℕ, ◌+◌, ◌∙◌, Bool, MatchBool, List, length, Option, Some, sym, ap, subst, arith}
+use Rattle.std.proofs.Common.{◌≡◌, ◌≢◌, ℕ, ◌∙◌, Bool, MatchBool, List, length, Option, Some, sym, ap, subst, arith}
 use Rattle.std.specs.List.{slice_get}
 use Rattle.std.specs.Str.{bytes_eq}
 use Rattle.statement.specs.declared.lines.Point.{Point}

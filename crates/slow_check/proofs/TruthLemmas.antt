@@ -1,7 +1,5 @@
 -- What is found of a slow line is what is true of it.
-use Rattle.std.proofs.Common.{◌≡◌, ◌≢◌, ℕ, ◌≤◌, ◌∙◌, ◌⊎◌, inl, inr, Bool, true, false, true≢false, MatchBool, MatchOption, List, length, get_or, Option, Some, None, IfSome, sym, ap, subst, arith}
-use Rattle.std.specs.List.{slice_get}
-use Rattle.std.specs.Str.{bytes_eq}
+use Rattle.std.proofs.Common.{◌≡◌, ℕ, ◌≤◌, ◌∙◌, ◌⊎◌, inl, inr, Bool, true, false, true≢false, MatchBool, MatchOption, List, Option, Some, None, IfSome, sym, ap, subst, arith}
 use Rattle.std.specs.Option.{is_some}
 use Rattle.std.proofs.lemmas.Bool.{cases_order, false≢true}
 use Rattle.statement.specs.declared.lines.Fault.{Fault}
@@ -10,7 +8,6 @@ use Rattle.statement.specs.declared.lines.Point.TheVariants.{Output, Cell}
 use Rattle.statement.specs.Netlists.{Netlist}
 use Rattle.statement.specs.Patterns.{Pattern, IsBefore}
 use Rattle.netlist.specs.Conditions.{IsSound}
-use Rattle.scan_insert.specs.Scanned.{AreChainsOf}
 use Rattle.redundancy_cert.specs.declared.counts.Counts.{Counts}
 use Rattle.evidence.specs.declared.kinds.Evidence.{Evidence}
 use Rattle.evidence.specs.declared.kinds.Evidence.TheVariants.{Tree, Refutation}

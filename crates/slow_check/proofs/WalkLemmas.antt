@@ -1,21 +1,19 @@
 -- A line of the report, as the walk through the universe sees it.
-use Rattle.std.proofs.Common.{◌≡◌, ℕ, zero, suc, ◌<◌, ◌∙◌, Bool, true, false, MatchBool, not, List, [], ◌∷◌, ◌++◌, length, get_or, Option, Some, None, Result, Ok, Err, IfOk, refl, sym, ap, subst, arith}
-use Rattle.std.specs.List.{AllZip, Contains, slice_get}
+use Rattle.std.proofs.Common.{◌≡◌, ℕ, zero, suc, ◌<◌, ◌∙◌, Bool, true, false, MatchBool, List, [], ◌∷◌, ◌++◌, length, get_or, Option, Some, Result, Ok, Err, IfOk, sym, ap, subst, arith}
+use Rattle.std.specs.List.{AllZip, slice_get}
 use Rattle.std.specs.Str.{bytes_eq}
-use Rattle.std.proofs.lemmas.Option.{slice_get-get_or, slice_get_within}
+use Rattle.std.proofs.lemmas.Option.{slice_get_within}
 use Rattle.std.proofs.lemmas.Slice.Zip.{AllZip-long}
 use Rattle.statement.specs.declared.lines.Fault.{Fault}
 use Rattle.statement.specs.declared.lines.Point.{Point}
 use Rattle.statement.specs.Netlists.{Netlist}
 use Rattle.statement.specs.Faults.{universe_of}
 use Rattle.statement.specs.Reports.{Line}
-use Rattle.fault_universe.proofs.Elements.{contains_at}
 use Rattle.transition_sim.specs.Detections.{LastTransition}
 use Rattle.transition_report.specs.Texts.{transition_text}
 use Rattle.check_parts.proofs.Matches.{texts_match}
 use Rattle.good_slow_files.specs.GoodSlowFiles.{IsTrueOfSlow, IsTrueSlowAt, SlowTest}
 use Rattle.slow_check.specs.declared.walking.Walk.{Walk}
-use Rattle.slow_check.specs.inner.Trials.{slow_test_of}
 use Rattle.slow_check.specs.inner.Walking.{IsReady}
 use Rattle.slow_check.proofs.FaultLemmas.{named_so, true_at, true_so}
 

@@ -1,7 +1,6 @@
-use Rattle.std.proofs.Common.{ℕ, ◌<◌, ◌^◌, List, Option, ap, arith, length, subst, sym, ◌∙◌}
-use Rattle.std.specs.List.{All, AllZip}
+use Rattle.std.proofs.Common.{◌<◌, ◌^◌, List, ap, length, subst, sym, ◌∙◌}
+use Rattle.std.specs.List.{All}
 use Rattle.statement.specs.declared.lines.Fault.{Fault}
-use Rattle.statement.specs.declared.lines.Point.{Point}
 use Rattle.statement.specs.Netlists.{Netlist}
 use Rattle.statement.specs.Patterns.{Pattern}
 use Rattle.statement.specs.Faults.{universe_of}
@@ -9,7 +8,6 @@ use Rattle.netlist.specs.Lines.{IsLineOf}
 use Rattle.evidence.specs.declared.kinds.Evidence.{Evidence}
 use Rattle.word_sim.specs.Words.{HasWidthsOf}
 use Rattle.word_sim.proofs.WidthLemmas.{widths}
-use Rattle.transition_sim.specs.Detections.{LastTransition}
 use Rattle.check_parts.specs.Firsts.{IsOfFault}
 use Rattle.slow_check.proofs.FaultLemmas.{few_of, have_lines, of_faults}
 use Rattle.slow_check.proofs.checking.tried.Goals as goal

@@ -1,7 +1,5 @@
-use Rattle.std.proofs.Common.{List, ap, length, subst, ◌∙◌}
-use Rattle.statement.specs.Reports.{Line}
+use Rattle.std.proofs.Common.{ap, length, ◌∙◌}
 use Rattle.run_report.proofs.ClassLemmas.{some_fault}
-use Rattle.slow_check.specs.inner.Trials.{slow_test_of}
 use Rattle.slow_check.proofs.checking.verdict_of.Goals as goal
 
 pub has_totals-requires-clause-faults : goal.has_totals-requires-clause-faults

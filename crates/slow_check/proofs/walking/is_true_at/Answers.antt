@@ -3,7 +3,7 @@ use Rattle.netlist.specs.Lines.{signal_of}
 use Rattle.statement.specs.Netlists.{Netlist, signals}
 use Rattle.statement.specs.Reports.{Line}
 use Rattle.statement.specs.Faults.{universe_of}
-use Rattle.std.proofs.Common.{◌<◌, length, MatchBool, ◌≡◌, ap}
+use Rattle.std.proofs.Common.{◌<◌, length, ◌≡◌}
 use Rattle.transition_report.specs.Texts.{transition_text}
 use Rattle.fault_universe.proofs.Elements.{contains_at}
 use Rattle.slow_check.specs.inner.Trials.{slow_test_of}
