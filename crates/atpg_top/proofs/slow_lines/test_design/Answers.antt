@@ -11,7 +11,7 @@ use Rattle.atpg_top.specs.Commands.{named_slow_due, slow_due}
 use Rattle.atpg_top.proofs.slow_lines.test_design.Goals as goal
 
 pub test_held-requires-clause-held : goal.test_held-requires-clause-held
-test_held-requires-clause-held g c =
+test_held-requires-clause-held g c κs within =
     let n = c.in-Ok.core in
     held_length n (map hold_of c.args.named.now) (none_held n) c.in-Ok-holds_of.holds c.in-Ok-holds_of.ensures ∙ length-map n.inputs (λ _. None)
 
@@ -22,10 +22,10 @@ returns-in-Ok-holds_of g c =
     subst (λ (m : Netlist). IsWorked (named_slow_due c.args.options named m) 5 c.test_held.result) c.in-Ok.ensures
     (then_worked (named_holds n named) (slow_due c.args.options n) 5 c.in-Ok-holds_of.holds c.test_held.result c.in-Ok-holds_of.ensures c.test_held.ensures)
 
-pub returns-in-Err-holds_of : goal.returns-in-Err-holds_of
-returns-in-Err-holds_of g c =
+pub returns-in-Err : goal.returns-in-Err
+returns-in-Err g c =
     let n = c.in-Ok.core in
     let named = map hold_of c.args.named.now in
-    let s = c.in-Err-holds_of.stop in
+    let s = c.in-Err.stop in
     subst (λ (m : Netlist). IsWorked (named_slow_due c.args.options named m) 5 (Err s)) c.in-Ok.ensures
-    (stopped (named_holds n named) (slow_due c.args.options n) 5 s c.in-Err-holds_of.ensures)
+    (stopped (named_holds n named) (slow_due c.args.options n) 5 s c.in-Err.ensures)
