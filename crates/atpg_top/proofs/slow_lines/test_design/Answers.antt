@@ -1,4 +1,4 @@
-use Rattle.std.proofs.Common.{◌∙◌, None, map, subst}
+use Rattle.std.proofs.Common.{◌∙◌, Err, None, map, subst}
 use Rattle.std.proofs.lemmas.List.{length-map}
 use Rattle.statement.specs.Netlists.{Netlist}
 use Rattle.netlist.specs.Holds.{none_held}
@@ -22,8 +22,8 @@ returns-in-Ok-holds_of g c =
     subst (λ (m : Netlist). IsWorked (named_slow_due c.args.options named m) 5 c.test_held.result) c.in-Ok.ensures
     (then_worked (named_holds n named) (slow_due c.args.options n) 5 c.in-Ok-holds_of.holds c.test_held.result c.in-Ok-holds_of.ensures c.test_held.ensures)
 
-pub returns-in-Err : goal.returns-in-Err
-returns-in-Err g c =
+pub returns : goal.returns
+returns g c =
     let n = c.in-Ok.core in
     let named = map hold_of c.args.named.now in
     let s = c.in-Err.stop in
