@@ -5,7 +5,7 @@ ghost use Rattle.cubes.specs.Cubes.{IsCubeOf, IsPatternOf};
 ghost use Rattle.list_core.specs.Batches.{IsTrueBatch};
 ghost use Rattle.list_core.specs.Subjects.{HaveLines};
 
-use crate::errands::Errand;
+use crate::errands::Brief;
 use crate::simulators::Simulators;
 use cubes::{Cube, Pattern, fill_all, merge};
 use evidence::Engine;
@@ -65,7 +65,7 @@ fn batch_for<
     N: Rng,
     R: Wait,
 >(
-    errand: &Errand<'_, J, E, G, R>,
+    brief: &Brief<'_, J, E, G, R>,
     shared: &Shared<J, T, S, P, U>,
     simulator: &mut Simulator<'_>,
     rng: &mut N,
@@ -78,9 +78,9 @@ fn batch_for<
     ensures true_batch { IfOk result (λ r. IsTrueBatch J.subject r.0) }
     ensures simulator { simulator.new ≡ simulator.old }
 {
-    let patterns = patterns_of::<J, N>(errand.alloc, cubes, rng)?;
-    let left = shared.undetected(errand.rt, errand.alloc)?;
-    let batch = batch_of(errand.alloc, simulator, patterns, &left)?;
+    let patterns = patterns_of::<J, N>(brief.alloc, cubes, rng)?;
+    let left = shared.undetected(brief.rt, brief.alloc)?;
+    let batch = batch_of(brief.alloc, simulator, patterns, &left)?;
     let undetected = left.classes().len().saturating_sub(batch.hits().len()) as u64;
     Ok((batch, undetected))
 }
@@ -96,7 +96,7 @@ pub(crate) fn batch_beside<
     G: Gate,
     R: Threads + Wait + Sync,
 >(
-    errand: &Errand<'_, J, E, G, R>,
+    brief: &Brief<'_, J, E, G, R>,
     shared: &Shared<J, T, S, P, U>,
     simulators: &mut Simulators<'_>,
     patterns: Vec<Pattern>,
@@ -108,9 +108,9 @@ pub(crate) fn batch_beside<
     ensures true_batch { IfOk result (λ r. IsTrueBatch J.subject r.0) }
     ensures simulators { simulators.new ≡ simulators.old }
 {
-    let left = shared.undetected(errand.rt, errand.alloc)?;
+    let left = shared.undetected(brief.rt, brief.alloc)?;
     let classes = left.classes();
-    let hits = simulators.hits(errand.rt, errand.alloc, &patterns, classes)?;
+    let hits = simulators.hits(brief.rt, brief.alloc, &patterns, classes)?;
     let undetected = classes.len().saturating_sub(hits.len()) as u64;
     Ok((Batch::new(patterns, hits), undetected))
 }
@@ -126,7 +126,7 @@ pub(crate) fn publish_batch<
     G: Gate,
     R: Wait,
 >(
-    errand: &Errand<'_, J, E, G, R>,
+    brief: &Brief<'_, J, E, G, R>,
     shared: &Shared<J, T, S, P, U>,
     share: &mut Share<T, S, P, U>,
     batch: Batch,
@@ -139,10 +139,10 @@ pub(crate) fn publish_batch<
     ensures ended { share.new.ended ≡ share.old.ended }
     ensures unspent { share.old.unspent ≤ share.new.unspent + length batch.patterns }
 {
-    if let Err((NoMemory, _)) = shared.publish(errand.rt, share, batch) {
+    if let Err((NoMemory, _)) = shared.publish(brief.rt, share, batch) {
         return Err(NoMemory);
     }
-    errand
+    brief
         .stage
         .at(share.worker(), Stage::Published { undetected });
     Ok(())
@@ -160,7 +160,7 @@ pub(crate) fn publish_cubes<
     N: Rng,
     R: Wait,
 >(
-    errand: &Errand<'_, J, E, G, R>,
+    brief: &Brief<'_, J, E, G, R>,
     shared: &Shared<J, T, S, P, U>,
     share: &mut Share<T, S, P, U>,
     simulator: &mut Simulator<'_>,
@@ -176,6 +176,6 @@ pub(crate) fn publish_cubes<
     ensures ended { share.new.ended ≡ share.old.ended }
     ensures simulator { simulator.new ≡ simulator.old }
 {
-    let (batch, undetected) = batch_for(errand, shared, simulator, rng, cubes)?;
-    publish_batch(errand, shared, share, batch, undetected)
+    let (batch, undetected) = batch_for(brief, shared, simulator, rng, cubes)?;
+    publish_batch(brief, shared, share, batch, undetected)
 }

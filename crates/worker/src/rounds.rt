@@ -15,7 +15,7 @@ ghost use Rattle.shared_list.specs.Tally.{Tally};
 ghost use Rattle.worker.specs.inner.Tests.{AreTestsOf};
 
 use crate::adding::add;
-use crate::errands::Errand;
+use crate::errands::Brief;
 use crate::gathering::{first_cubes, gather, keep_unhit};
 use crate::hands::{Hand, Test};
 use crate::hunting::hunt;
@@ -90,7 +90,7 @@ fn hunt_beside<
     G: Gate + Sync,
     R: Threads + Wait + Sync,
 >(
-    errand: &Errand<'_, J, E, G, R>,
+    brief: &Brief<'_, J, E, G, R>,
     end: u32,
     threads: usize,
     crew: &mut [Hand<'_, J, T, S, P, U, E>],
@@ -98,8 +98,8 @@ fn hunt_beside<
     requires { 0 < threads }
     ensures { length crew.new ≡ length crew.old }
 {
-    let part = move |_i: usize, hand: &mut Hand<J, T, S, P, U, E>| hunt(errand, end, hand);
-    thread::for_each_mut(errand.rt, crew, threads, &part);
+    let part = move |_i: usize, hand: &mut Hand<J, T, S, P, U, E>| hunt(brief, end, hand);
+    thread::for_each_mut(brief.rt, crew, threads, &part);
 }
 
 /// Refuses to go on where memory was refused to some worker.
@@ -125,7 +125,7 @@ fn hunt_more<
     G: Gate + Sync,
     R: Threads + Wait + Sync,
 >(
-    errand: &Errand<'_, J, E, G, R>,
+    brief: &Brief<'_, J, E, G, R>,
     crew: &mut [Hand<'_, J, T, S, P, U, E>],
     pace: Pace,
 ) -> Result<Pace, NoMemory>
@@ -135,10 +135,10 @@ fn hunt_more<
     let lead = &crew[0];
     let waiting = lead.tests.len();
     let missing = pace.size.saturating_sub(waiting);
-    let more = wanted(missing, pace.closed, errand.goal.is_some());
-    let end = lead.shared.behind(errand.rt, pace.end, more);
+    let more = wanted(missing, pace.closed, brief.goal.is_some());
+    let end = lead.shared.behind(brief.rt, pace.end, more);
     let threads = if more < FEW { 1 } else { crew.len() };
-    hunt_beside(errand, end, threads, crew);
+    hunt_beside(brief, end, threads, crew);
     check_rooms(crew)?;
     gather(crew)?;
     let lead = &crew[0];
@@ -162,7 +162,7 @@ fn publish_word<
     G: Gate,
     R: Threads + Wait + Sync,
 >(
-    errand: &Errand<'_, J, E, G, R>,
+    brief: &Brief<'_, J, E, G, R>,
     simulators: &mut Simulators<'_>,
     shared: &Shared<J, T, S, P, U>,
     share: &mut Share<T, S, P, U>,
@@ -181,9 +181,9 @@ fn publish_word<
     ensures fewer { vec_len tests.new ≤ vec_len tests.old }
     ensures cubes { AreTestsOf J.subject.netlist J.subject.holds tests.new.items }
 {
-    let (batch, undetected) = batch_beside(errand, shared, simulators, word)?;
+    let (batch, undetected) = batch_beside(brief, shared, simulators, word)?;
     keep_unhit(tests, batch.hits());
-    publish_batch(errand, shared, share, batch, undetected)?;
+    publish_batch(brief, shared, share, batch, undetected)?;
     Ok(undetected)
 }
 
@@ -198,7 +198,7 @@ fn publish_words<
     G: Gate,
     R: Threads + Wait + Sync,
 >(
-    errand: &Errand<'_, J, E, G, R>,
+    brief: &Brief<'_, J, E, G, R>,
     simulators: &mut Simulators<'_>,
     shared: &Shared<J, T, S, P, U>,
     share: &mut Share<T, S, P, U>,
@@ -220,7 +220,7 @@ fn publish_words<
     let mut undetected = 0;
     while !left.is_empty() {
         let later = left.split_off(FULL.min(left.len()))?;
-        undetected = publish_word(errand, simulators, shared, share, left, tests)?;
+        undetected = publish_word(brief, simulators, shared, share, left, tests)?;
         left = later;
     }
     Ok(undetected)
@@ -238,7 +238,7 @@ fn publish_first<
     N: Rng,
     R: Threads + Wait + Sync,
 >(
-    errand: &Errand<'_, J, E, G, R>,
+    brief: &Brief<'_, J, E, G, R>,
     simulators: &mut Simulators<'_>,
     rng: &mut N,
     size: usize,
@@ -247,12 +247,12 @@ fn publish_first<
     requires simulators { simulators.old ≡ J.subject.netlist }
     ensures simulators { simulators.new ≡ simulators.old }
 {
-    let waiting = mem::replace(&mut lead.tests, Vec::new(errand.alloc));
-    let (cubes, rest) = first_cubes(errand.alloc, waiting, size)?;
-    let patterns = patterns_of::<J, N>(errand.alloc, &cubes, rng)?;
+    let waiting = mem::replace(&mut lead.tests, Vec::new(brief.alloc));
+    let (cubes, rest) = first_cubes(brief.alloc, waiting, size)?;
+    let patterns = patterns_of::<J, N>(brief.alloc, &cubes, rng)?;
     lead.tests = rest;
     publish_words(
-        errand,
+        brief,
         simulators,
         lead.shared,
         &mut lead.share,
@@ -273,7 +273,7 @@ fn take_step<
     N: Rng,
     R: Threads + Wait + Sync,
 >(
-    errand: &Errand<'_, J, E, G, R>,
+    brief: &Brief<'_, J, E, G, R>,
     simulators: &mut Simulators<'_>,
     rng: &mut N,
     crew: &mut [Hand<'_, J, T, S, P, U, E>],
@@ -288,7 +288,7 @@ fn take_step<
     let waiting = lead.tests.len();
     let is_last = pace.end >= lead.shared.count();
     if waiting < pace.size && !is_last {
-        return hunt_more(errand, crew, pace);
+        return hunt_more(brief, crew, pace);
     }
     if waiting == 0 {
         return Ok(Pace {
@@ -297,10 +297,10 @@ fn take_step<
         });
     }
     let lead = &mut crew[0];
-    let left = publish_first(errand, simulators, rng, pace.size, lead)?;
+    let left = publish_first(brief, simulators, rng, pace.size, lead)?;
     Ok(Pace {
-        size: batch_size(left, width_of(errand.core)),
-        has_ended: is_enough(errand, lead.shared),
+        size: batch_size(left, width_of(brief.core)),
+        has_ended: is_enough(brief, lead.shared),
         ..pace
     })
 }
@@ -317,7 +317,7 @@ fn take_steps<
     N: Rng,
     R: Threads + Wait + Sync,
 >(
-    errand: &Errand<'_, J, E, G, R>,
+    brief: &Brief<'_, J, E, G, R>,
     simulators: &mut Simulators<'_>,
     rng: &mut N,
     crew: &mut [Hand<'_, J, T, S, P, U, E>],
@@ -331,14 +331,14 @@ fn take_steps<
     let mut pace = Pace {
         end: 0,
         closed: 0,
-        size: batch_size(classes, width_of(errand.core)),
-        has_ended: is_enough(errand, lead.shared),
+        size: batch_size(classes, width_of(brief.core)),
+        has_ended: is_enough(brief, lead.shared),
     };
-    for _ in errand.rt.forever() {
+    for _ in brief.rt.forever() {
         if pace.has_ended {
             break;
         }
-        pace = take_step(errand, simulators, rng, crew, pace)?;
+        pace = take_step(brief, simulators, rng, crew, pace)?;
     }
     Ok(())
 }
@@ -391,7 +391,7 @@ pub(crate) fn work_rounds<
     G: Gate + Sync,
     R: Threads + Wait + Sync,
 >(
-    errand: &Errand<'_, J, E, G, R>,
+    brief: &Brief<'_, J, E, G, R>,
     shared: &Shared<J, T, S, P, U>,
     shares: Vec<Share<T, S, P, U>>,
     workers: u32,
@@ -402,8 +402,8 @@ pub(crate) fn work_rounds<
     ensures { IfOk result (λ v. vec_len v ≡ workers) }
 {
     let mut rng = Lcg64Xsh32::new(seed, 0);
-    let mut simulators = Simulators::new(errand.alloc, errand.core, workers)?;
-    let mut crew = crew_of(errand.alloc, shared, shares)?;
-    take_steps(errand, &mut simulators, &mut rng, &mut crew)?;
-    shares_of(errand.alloc, crew)
+    let mut simulators = Simulators::new(brief.alloc, brief.core, workers)?;
+    let mut crew = crew_of(brief.alloc, shared, shares)?;
+    take_steps(brief, &mut simulators, &mut rng, &mut crew)?;
+    shares_of(brief.alloc, crew)
 }
