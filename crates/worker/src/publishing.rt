@@ -10,21 +10,60 @@ use crate::simulators::Simulators;
 use cubes::{Cube, Pattern, fill_all, merge};
 use evidence::Engine;
 use list_core::{About, Left};
-use netlist::NoMemory;
+use netlist::{Core, NoMemory};
 use outside::{Gate, Stage};
-use rand_core::Rng;
+use rand_pcg::Lcg64Xsh32;
 use shared_list::{Share, Shared};
 use std::alloc::Global;
+use std::marker::{Model, PhantomData};
 use std::sync::Wait;
 use std::sync::ledger::Ledger;
 use std::thread::Threads;
 use word_sim::{Batch, Simulator};
 
+/// What one worker makes batches with: the stream that fills cubes, and a simulator of the list's netlist. Contracts see the netlist.
+#[derive(Drop)]
+pub(crate) struct Batcher<'a, J: About> {
+    rng: Lcg64Xsh32,
+    simulator: Simulator<'a>,
+    about: PhantomData<J>,
+}
+
+impl<'a, J: About> Model for Batcher<'a, J> {
+    ghost use Rattle.std.specs.Prelude.{◌≡◌};
+    ghost use Rattle.statement.specs.Netlists.{Netlist};
+
+    ghost Value = { Netlist };
+
+    ghost view = { λ b. b.simulator };
+
+    ghost invariant = { λ b. b.simulator ≡ J.subject.netlist };
+}
+
+impl<'a, J: About> Batcher<'a, J> {
+    /// For the worker of this number.
+    pub(crate) fn new(
+        alloc: Global,
+        core: &'a Core,
+        seed: u64,
+        worker: u32,
+    ) -> Result<Batcher<'a, J>, NoMemory>
+        requires { core.now ≡ J.subject.netlist }
+    {
+        let simulator = Simulator::new(alloc, core)?;
+        Ok(Batcher {
+            rng: Lcg64Xsh32::new(seed, worker as u64),
+            simulator,
+            about: PhantomData,
+        })
+    }
+}
+
 /// Fewer cubes, filled.
-pub(crate) fn patterns_of<J: About, N: Rng>(
+pub(crate) fn patterns_of<J: About>(
     alloc: Global,
     cubes: &[Cube],
-    rng: &mut N,
+    rng: &mut Lcg64Xsh32,
 ) -> Result<Vec<Pattern>, NoMemory>
     requires { All (IsCubeOf J.subject.netlist J.subject.holds) cubes.now }
     ensures few { IfOk result (λ v. vec_len v ≤ length cubes.now) }
@@ -54,33 +93,20 @@ fn batch_of<J: About>(
 }
 
 /// The cubes as a batch, merged and filled, with what it hits of the classes that are left; and how many of these it leaves.
-fn batch_for<
-    J: About,
-    T: Ledger,
-    S: Ledger,
-    P: Ledger,
-    U: Ledger,
-    E: Engine,
-    G: Gate,
-    N: Rng,
-    R: Wait,
->(
+fn batch_for<J: About, T: Ledger, S: Ledger, P: Ledger, U: Ledger, E: Engine, G: Gate, R: Wait>(
     brief: &Brief<'_, J, E, G, R>,
     shared: &Shared<J, T, S, P, U>,
-    simulator: &mut Simulator<'_>,
-    rng: &mut N,
+    batcher: &mut Batcher<'_, J>,
     cubes: &[Cube],
 ) -> Result<(Batch, u64), NoMemory>
-    requires simulator { simulator.old ≡ J.subject.netlist }
     requires wide { All (IsCubeOf J.subject.netlist J.subject.holds) cubes.now }
     requires few { length cubes.now ≤ 64 }
     ensures few { IfOk result (λ r. length r.0.patterns ≤ length cubes.now) }
     ensures true_batch { IfOk result (λ r. IsTrueBatch J.subject r.0) }
-    ensures simulator { simulator.new ≡ simulator.old }
 {
-    let patterns = patterns_of::<J, N>(brief.alloc, cubes, rng)?;
+    let patterns = patterns_of::<J>(brief.alloc, cubes, &mut batcher.rng)?;
     let left = shared.undetected(brief.rt, brief.alloc)?;
-    let batch = batch_of(brief.alloc, simulator, patterns, &left)?;
+    let batch = batch_of(brief.alloc, &mut batcher.simulator, patterns, &left)?;
     let undetected = left.classes().len().saturating_sub(batch.hits().len()) as u64;
     Ok((batch, undetected))
 }
@@ -157,25 +183,21 @@ pub(crate) fn publish_cubes<
     U: Ledger,
     E: Engine,
     G: Gate,
-    N: Rng,
     R: Wait,
 >(
     brief: &Brief<'_, J, E, G, R>,
     shared: &Shared<J, T, S, P, U>,
     share: &mut Share<T, S, P, U>,
-    simulator: &mut Simulator<'_>,
-    rng: &mut N,
+    batcher: &mut Batcher<'_, J>,
     cubes: &[Cube],
 ) -> Result<(), NoMemory>
     requires table { share.old.table ≡ shared.now.word.shared.table_id }
-    requires simulator { simulator.old ≡ J.subject.netlist }
     requires wide { All (IsCubeOf J.subject.netlist J.subject.holds) cubes.now }
     requires few { length cubes.now ≤ 64 }
     requires unspent { length cubes.now ≤ share.old.unspent }
     ensures table { share.new.table ≡ share.old.table }
     ensures ended { share.new.ended ≡ share.old.ended }
-    ensures simulator { simulator.new ≡ simulator.old }
 {
-    let (batch, undetected) = batch_for(brief, shared, simulator, rng, cubes)?;
+    let (batch, undetected) = batch_for(brief, shared, batcher, cubes)?;
     publish_batch(brief, shared, share, batch, undetected)
 }

@@ -17,19 +17,18 @@ use evidence::{Engine, Evidence};
 use list_core::{About, Claim, FaultList, Goal};
 use netlist::{NoMemory, Point};
 use outside::Gate;
-use rand_core::Rng;
 use rand_pcg::Lcg64Xsh32;
 use std::alloc::Global;
 use std::sync::Wait;
 use word_sim::{Batch, Hit};
 
 /// The cube, filled, with its hit of the claim's class.
-fn single<J: About, N: Rng>(
+fn single<J: About>(
     alloc: Global,
     claim: &Claim<J>,
     cube: &Cube,
     point: Point,
-    rng: &mut N,
+    rng: &mut Lcg64Xsh32,
 ) -> Result<Batch, NoMemory>
     requires { IsTestCube claim.now.fault J.subject.netlist J.subject.holds cube.now point }
     ensures true_batch { IfOk result (IsTrueBatch J.subject) }
@@ -50,14 +49,14 @@ fn single<J: About, N: Rng>(
 }
 
 /// Publishes the cube, filled, with its hit of the claim's class.
-fn publish_single<J: About, N: Rng>(
+fn publish_single<J: About>(
     alloc: Global,
     list: &mut FaultList<J>,
     worker: u32,
     claim: &Claim<J>,
     cube: &Cube,
     point: Point,
-    rng: &mut N,
+    rng: &mut Lcg64Xsh32,
 ) -> Result<(), NoMemory>
     requires test { IsTestCube claim.now.fault J.subject.netlist J.subject.holds cube.now point }
     requires few { length list.old.patterns + 1 < 2 ^ 32 }
@@ -80,13 +79,13 @@ fn settle_one<J: About>(list: &mut FaultList<J>, claim: Claim<J>, evidence: Evid
 }
 
 /// Publishes a test, or settles the claim.
-fn close<J: About, N: Rng>(
+fn close<J: About>(
     alloc: Global,
     list: &mut FaultList<J>,
     worker: u32,
     claim: Claim<J>,
     outcome: Outcome,
-    rng: &mut N,
+    rng: &mut Lcg64Xsh32,
 ) -> Result<(), NoMemory>
     requires outcome { IsOutcome J.subject claim.fault outcome }
     requires few { length list.old.patterns + 1 < 2 ^ 32 }
@@ -121,12 +120,12 @@ fn outcome_for<J: About, E: Engine, G: Gate, R: Wait>(
 }
 
 /// Works the class, where it is Open.
-fn work_one<J: About, E: Engine, G: Gate, N: Rng, R: Wait>(
+fn work_one<J: About, E: Engine, G: Gate, R: Wait>(
     brief: &Brief<'_, J, E, G, R>,
     list: &mut FaultList<J>,
     worker: u32,
     class: u32,
-    rng: &mut N,
+    rng: &mut Lcg64Xsh32,
 ) -> Result<(), NoMemory>
     requires class { class < class_count J.subject }
     requires claims { list.old.claims < class_count J.subject }

@@ -27,7 +27,6 @@ use evidence::Engine;
 use list_core::About;
 use netlist::{Core, NoMemory};
 use outside::Gate;
-use rand_core::Rng;
 use rand_pcg::Lcg64Xsh32;
 use shared_list::{Share, Shared};
 use std::alloc::Global;
@@ -89,12 +88,7 @@ fn hunt_beside<
     E: Engine + Sync,
     G: Gate + Sync,
     R: Threads + Wait + Sync,
->(
-    brief: &Brief<'_, J, E, G, R>,
-    end: u32,
-    threads: usize,
-    crew: &mut [Hand<'_, J, T, S, P, U, E>],
-)
+>(brief: &Brief<'_, J, E, G, R>, end: u32, threads: usize, crew: &mut [Hand<'_, J, T, S, P, U, E>])
     requires { 0 < threads }
     ensures { length crew.new ≡ length crew.old }
 {
@@ -235,12 +229,11 @@ fn publish_first<
     U: Ledger,
     E: Engine,
     G: Gate,
-    N: Rng,
     R: Threads + Wait + Sync,
 >(
     brief: &Brief<'_, J, E, G, R>,
     simulators: &mut Simulators<'_>,
-    rng: &mut N,
+    rng: &mut Lcg64Xsh32,
     size: usize,
     lead: &mut Hand<'_, J, T, S, P, U, E>,
 ) -> Result<u64, NoMemory>
@@ -249,7 +242,7 @@ fn publish_first<
 {
     let waiting = mem::replace(&mut lead.tests, Vec::new(brief.alloc));
     let (cubes, rest) = first_cubes(brief.alloc, waiting, size)?;
-    let patterns = patterns_of::<J, N>(brief.alloc, &cubes, rng)?;
+    let patterns = patterns_of::<J>(brief.alloc, &cubes, rng)?;
     lead.tests = rest;
     publish_words(
         brief,
@@ -270,12 +263,11 @@ fn take_step<
     U: Ledger + Send + Sync,
     E: Engine + Sync,
     G: Gate + Sync,
-    N: Rng,
     R: Threads + Wait + Sync,
 >(
     brief: &Brief<'_, J, E, G, R>,
     simulators: &mut Simulators<'_>,
-    rng: &mut N,
+    rng: &mut Lcg64Xsh32,
     crew: &mut [Hand<'_, J, T, S, P, U, E>],
     pace: Pace,
 ) -> Result<Pace, NoMemory>
@@ -314,12 +306,11 @@ fn take_steps<
     U: Ledger + Send + Sync,
     E: Engine + Sync,
     G: Gate + Sync,
-    N: Rng,
     R: Threads + Wait + Sync,
 >(
     brief: &Brief<'_, J, E, G, R>,
     simulators: &mut Simulators<'_>,
-    rng: &mut N,
+    rng: &mut Lcg64Xsh32,
     crew: &mut [Hand<'_, J, T, S, P, U, E>],
 ) -> Result<(), NoMemory>
     requires simulators { simulators.old ≡ J.subject.netlist }

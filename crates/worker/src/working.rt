@@ -18,18 +18,15 @@ ghost use Rattle.worker.specs.inner.Stock.{IsStock};
 use crate::adding::add;
 use crate::errands::{Brief, Errand, brief_of};
 use crate::outcomes::{Outcome, outcome_of};
-use crate::publishing::publish_cubes;
+use crate::publishing::{Batcher, publish_cubes};
 use cubes::Cube;
 use evidence::{Engine, Evidence};
 use list_core::{About, Claim, Goal, Settling};
 use netlist::NoMemory;
 use outside::{Gate, Stage};
-use rand_core::Rng;
-use rand_pcg::Lcg64Xsh32;
 use shared_list::{Drawn, Share, Shared};
 use std::sync::Wait;
 use std::sync::ledger::Ledger;
-use word_sim::Simulator;
 
 /// How many cubes make a batch.
 pub(crate) const FULL: usize = 64;
@@ -67,11 +64,10 @@ pub fn work<J: About, T: Ledger, S: Ledger, P: Ledger, U: Ledger, E: Engine, G: 
     ensures ended { OnOk result (IfNone goal.entry (share.new.ended ≡ true)) }
 {
     let brief = brief_of::<J, E, G, R>(errand, goal);
-    let mut rng = Lcg64Xsh32::new(seed, share.worker() as u64);
-    let mut simulator = Simulator::new(errand.alloc, errand.core)?;
+    let mut batcher = Batcher::new(errand.alloc, errand.core, seed, share.worker())?;
     let room = room_of(&brief, None)?;
-    let cubes = work_turns(&brief, shared, share, room, &mut simulator, &mut rng)?;
-    publish_cubes(&brief, shared, share, &mut simulator, &mut rng, &cubes)
+    let cubes = work_turns(&brief, shared, share, room, &mut batcher)?;
+    publish_cubes(&brief, shared, share, &mut batcher, &cubes)
 }
 
 /// The room that was kept, or a new one.
@@ -193,143 +189,89 @@ fn keep_cube<J: About>(cubes: &mut Vec<Cube>, found: Option<Cube>) -> Result<(),
 }
 
 /// Publishes the cubes once there are as many as a batch has, and then looks whether enough is detected; whether it is.
-fn publish_full<
-    J: About,
-    T: Ledger,
-    S: Ledger,
-    P: Ledger,
-    U: Ledger,
-    E: Engine,
-    G: Gate,
-    N: Rng,
-    R: Wait,
->(
+fn publish_full<J: About, T: Ledger, S: Ledger, P: Ledger, U: Ledger, E: Engine, G: Gate, R: Wait>(
     brief: &Brief<'_, J, E, G, R>,
     shared: &Shared<J, T, S, P, U>,
     share: &mut Share<T, S, P, U>,
-    simulator: &mut Simulator<'_>,
-    rng: &mut N,
+    batcher: &mut Batcher<'_, J>,
     cubes: &mut Vec<Cube>,
 ) -> Result<bool, NoMemory>
     requires table { share.old.table ≡ shared.now.word.shared.table_id }
-    requires simulator { simulator.old ≡ J.subject.netlist }
     requires wide { All (IsCubeOf J.subject.netlist J.subject.holds) cubes.old.items }
     requires few { vec_len cubes.old ≤ 64 }
     requires unspent { vec_len cubes.old ≤ share.old.unspent }
     ensures table { share.new.table ≡ share.old.table }
-    ensures simulator { simulator.new ≡ simulator.old }
     ensures stock { OnOk result (IsStock J.subject share.new cubes.new) }
     ensures goal { IfOk result (λ b. IfNone brief.now (b ≡ false)) }
 {
     if cubes.len() < FULL {
         return Ok(false);
     }
-    publish_cubes(brief, shared, share, simulator, rng, cubes)?;
+    publish_cubes(brief, shared, share, batcher, cubes)?;
     cubes.clear();
     Ok(is_enough(brief, shared))
 }
 
 /// Searches a claim that was drawn, and publishes once there are as many cubes as a batch has: the room back, and whether to end.
-fn work_claim<
-    J: About,
-    T: Ledger,
-    S: Ledger,
-    P: Ledger,
-    U: Ledger,
-    E: Engine,
-    G: Gate,
-    N: Rng,
-    R: Wait,
->(
+fn work_claim<J: About, T: Ledger, S: Ledger, P: Ledger, U: Ledger, E: Engine, G: Gate, R: Wait>(
     brief: &Brief<'_, J, E, G, R>,
     shared: &Shared<J, T, S, P, U>,
     share: &mut Share<T, S, P, U>,
     claim: Claim<J>,
     room: E::Room,
-    simulator: &mut Simulator<'_>,
-    rng: &mut N,
+    batcher: &mut Batcher<'_, J>,
     cubes: &mut Vec<Cube>,
 ) -> Result<(E::Room, bool), NoMemory>
     requires table { share.old.table ≡ shared.now.word.shared.table_id }
     requires room { E.serves J.subject.netlist J.subject.holds room }
-    requires simulator { simulator.old ≡ J.subject.netlist }
     requires stock { IsStock J.subject share.old cubes.old }
     requires unspent { vec_len cubes.old < share.old.unspent }
     ensures table { share.new.table ≡ share.old.table }
-    ensures simulator { simulator.new ≡ simulator.old }
     ensures room { IfOk result (λ r. E.serves J.subject.netlist J.subject.holds r.0) }
     ensures stock { OnOk result (IsStock J.subject share.new cubes.new) }
     ensures goal { IfOk result (λ r. IfNone brief.now (r.1 ≡ false)) }
 {
     let (found, kept) = searched(brief, shared, share, claim, room)?;
     keep_cube::<J>(cubes, found)?;
-    let has_ended = publish_full(brief, shared, share, simulator, rng, cubes)?;
+    let has_ended = publish_full(brief, shared, share, batcher, cubes)?;
     Ok((kept, has_ended))
 }
 
 /// Draws a class, and works it, if one is left and still open: the room back, and whether to end, since none is left or enough is detected.
-fn take_turn<
-    J: About,
-    T: Ledger,
-    S: Ledger,
-    P: Ledger,
-    U: Ledger,
-    E: Engine,
-    G: Gate,
-    N: Rng,
-    R: Wait,
->(
+fn take_turn<J: About, T: Ledger, S: Ledger, P: Ledger, U: Ledger, E: Engine, G: Gate, R: Wait>(
     brief: &Brief<'_, J, E, G, R>,
     shared: &Shared<J, T, S, P, U>,
     share: &mut Share<T, S, P, U>,
     room: E::Room,
-    simulator: &mut Simulator<'_>,
-    rng: &mut N,
+    batcher: &mut Batcher<'_, J>,
     cubes: &mut Vec<Cube>,
 ) -> Result<(E::Room, bool), NoMemory>
     requires table { share.old.table ≡ shared.now.word.shared.table_id }
     requires room { E.serves J.subject.netlist J.subject.holds room }
-    requires simulator { simulator.old ≡ J.subject.netlist }
     requires stock { IsStock J.subject share.old cubes.old }
     ensures table { share.new.table ≡ share.old.table }
-    ensures simulator { simulator.new ≡ simulator.old }
     ensures room { IfOk result (λ r. E.serves J.subject.netlist J.subject.holds r.0) }
     ensures stock { OnOk result (IsStock J.subject share.new cubes.new) }
     ensures told { IfOk result (λ r. IfNone brief.now (IsTrue r.1 → share.new.ended ≡ true)) }
 {
     match shared.take(brief.rt, share) {
-        Drawn::Claim(claim) => {
-            work_claim(brief, shared, share, claim, room, simulator, rng, cubes)
-        }
+        Drawn::Claim(claim) => { work_claim(brief, shared, share, claim, room, batcher, cubes) }
         Drawn::Gone(_) => Ok((room, false)),
         Drawn::None => Ok((room, true)),
     }
 }
 
 /// Turn after turn, until no class is left, or enough is detected: the cubes that aren't published yet.
-fn work_turns<
-    J: About,
-    T: Ledger,
-    S: Ledger,
-    P: Ledger,
-    U: Ledger,
-    E: Engine,
-    G: Gate,
-    N: Rng,
-    R: Wait,
->(
+fn work_turns<J: About, T: Ledger, S: Ledger, P: Ledger, U: Ledger, E: Engine, G: Gate, R: Wait>(
     brief: &Brief<'_, J, E, G, R>,
     shared: &Shared<J, T, S, P, U>,
     share: &mut Share<T, S, P, U>,
     room: E::Room,
-    simulator: &mut Simulator<'_>,
-    rng: &mut N,
+    batcher: &mut Batcher<'_, J>,
 ) -> Result<Vec<Cube>, NoMemory>
     requires table { share.old.table ≡ shared.now.word.shared.table_id }
     requires room { E.serves J.subject.netlist J.subject.holds room }
-    requires simulator { simulator.old ≡ J.subject.netlist }
     ensures table { share.new.table ≡ share.old.table }
-    ensures simulator { simulator.new ≡ simulator.old }
     ensures stock { IfOk result (λ cubes. IsStock J.subject share.new cubes) }
     ensures ended { OnOk result (IfNone brief.now (share.new.ended ≡ true)) }
 {
@@ -340,7 +282,7 @@ fn work_turns<
         if has_ended {
             break;
         }
-        let (kept, ends) = take_turn(brief, shared, share, room, simulator, rng, &mut cubes)?;
+        let (kept, ends) = take_turn(brief, shared, share, room, batcher, &mut cubes)?;
         room = kept;
         has_ended = ends;
     }

@@ -11,7 +11,6 @@ loop-init g c = record {
   told = told_of _ c.args.brief.now c.is_enough-has_ended.result c.is_enough-has_ended.ensures;
   table = refl;
   room = c.requires.room;
-  simulator = refl;
 }
 
 pub returns-clause-ended : goal.returns-clause-ended

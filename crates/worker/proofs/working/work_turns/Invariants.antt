@@ -9,5 +9,4 @@ invariant-loop g l = record {
   told : IfNone l.brief (IsTrue l.has_ended → l.share.ended ≡ true);
   table : l.share.table ≡ l.fn.share.table;
   room : g.E.Engine.serves g.J.About.subject.netlist g.J.About.subject.holds l.room;
-  simulator : l.simulator ≡ l.fn.simulator;
 }
