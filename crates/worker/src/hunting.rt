@@ -47,9 +47,9 @@ fn keep_test<J: About>(
     found: Option<Cube>,
 ) -> Result<(), NoMemory>
     requires cube { IfSome found (IsCubeOf J.subject.netlist J.subject.holds) }
-    requires cubes { AreTestsOf J.subject.netlist J.subject.holds tests.old.items }
+    requires cubes { AreTestsOf J.subject tests.old.items }
     ensures few { vec_len tests.new ≤ vec_len tests.old + 1 }
-    ensures cubes { AreTestsOf J.subject.netlist J.subject.holds tests.new.items }
+    ensures cubes { AreTestsOf J.subject tests.new.items }
 {
     match found {
         Some(cube) => add(tests, Test { class, cube }),
@@ -68,12 +68,12 @@ fn hunt_claim<J: About, T: Ledger, S: Ledger, P: Ledger, U: Ledger, E: Engine, G
 ) -> Result<E::Room, NoMemory>
     requires table { share.old.table ≡ shared.now.word.shared.table_id }
     requires room { E.serves J.subject.netlist J.subject.holds room }
-    requires cubes { AreTestsOf J.subject.netlist J.subject.holds tests.old.items }
+    requires cubes { AreTestsOf J.subject tests.old.items }
     ensures table { share.new.table ≡ share.old.table }
     ensures unspent { share.new.unspent ≡ share.old.unspent }
     ensures few { vec_len tests.new ≤ vec_len tests.old + 1 }
     ensures room { IfOk result (E.serves J.subject.netlist J.subject.holds) }
-    ensures cubes { AreTestsOf J.subject.netlist J.subject.holds tests.new.items }
+    ensures cubes { AreTestsOf J.subject tests.new.items }
 {
     let class = claim.class();
     if !shared.is_open(brief.rt, class) {
@@ -96,21 +96,22 @@ fn take_turn<J: About, T: Ledger, S: Ledger, P: Ledger, U: Ledger, E: Engine, G:
 ) -> Result<(E::Room, bool), NoMemory>
     requires table { share.old.table ≡ shared.now.word.shared.table_id }
     requires room { E.serves J.subject.netlist J.subject.holds room }
-    requires cubes { AreTestsOf J.subject.netlist J.subject.holds tests.old.items }
+    requires cubes { AreTestsOf J.subject tests.old.items }
     requires unspent { vec_len claims.old + vec_len tests.old ≤ share.old.unspent }
     ensures table { share.new.table ≡ share.old.table }
     ensures room { IfOk result (λ r. E.serves J.subject.netlist J.subject.holds r.0) }
-    ensures cubes { AreTestsOf J.subject.netlist J.subject.holds tests.new.items }
+    ensures cubes { AreTestsOf J.subject tests.new.items }
     ensures unspent { vec_len claims.new + vec_len tests.new ≤ share.new.unspent }
 {
     match drawn(brief.rt, shared, share, claims) {
         Drawn::Claim(claim) => {
             if claim.class() < end {
                 let kept = hunt_claim(brief, shared, share, claim, room, tests)?;
-                return Ok((kept, true));
+                Ok((kept, true))
+            } else {
+                add(claims, claim)?;
+                Ok((room, false))
             }
-            add(claims, claim)?;
-            Ok((room, false))
         }
         Drawn::Gone(_) => Ok((room, true)),
         Drawn::None => Ok((room, false)),
@@ -129,11 +130,11 @@ fn take_turns<J: About, T: Ledger, S: Ledger, P: Ledger, U: Ledger, E: Engine, G
 ) -> Result<E::Room, NoMemory>
     requires table { share.old.table ≡ shared.now.word.shared.table_id }
     requires room { E.serves J.subject.netlist J.subject.holds room }
-    requires cubes { AreTestsOf J.subject.netlist J.subject.holds tests.old.items }
+    requires cubes { AreTestsOf J.subject tests.old.items }
     requires unspent { vec_len claims.old + vec_len tests.old ≤ share.old.unspent }
     ensures table { share.new.table ≡ share.old.table }
     ensures room { IfOk result (E.serves J.subject.netlist J.subject.holds) }
-    ensures cubes { AreTestsOf J.subject.netlist J.subject.holds tests.new.items }
+    ensures cubes { AreTestsOf J.subject tests.new.items }
     ensures unspent { vec_len claims.new + vec_len tests.new ≤ share.new.unspent }
 {
     let mut room = room;

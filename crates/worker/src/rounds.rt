@@ -16,7 +16,7 @@ ghost use Rattle.worker.specs.inner.Tests.{AreTestsOf};
 
 use crate::adding::add;
 use crate::errands::Brief;
-use crate::gathering::{first_cubes, gather, keep_unhit};
+use crate::gathering::{cubes_of, gather, keep_unhit, take_first};
 use crate::hands::{Hand, Test};
 use crate::hunting::hunt;
 use crate::publishing::{batch_beside, patterns_of, publish_batch};
@@ -32,8 +32,8 @@ use shared_list::{Share, Shared};
 use std::alloc::Global;
 use std::sync::Wait;
 use std::sync::ledger::Ledger;
+use std::thread;
 use std::thread::Threads;
-use std::{mem, thread};
 
 /// For fewer classes no thread is begun.
 const FEW: u32 = 4;
@@ -168,15 +168,15 @@ fn publish_word<
     requires few { vec_len word ≤ 64 }
     requires unspent { vec_len word ≤ share.old.unspent }
     requires wide { All (IsPatternOf J.subject.netlist J.subject.holds) word.items }
-    requires cubes { AreTestsOf J.subject.netlist J.subject.holds tests.old.items }
+    requires cubes { AreTestsOf J.subject tests.old.items }
     ensures simulators { simulators.new ≡ simulators.old }
     ensures table { share.new.table ≡ share.old.table }
     ensures unspent { share.old.unspent ≤ share.new.unspent + vec_len word }
     ensures fewer { vec_len tests.new ≤ vec_len tests.old }
-    ensures cubes { AreTestsOf J.subject.netlist J.subject.holds tests.new.items }
+    ensures cubes { AreTestsOf J.subject tests.new.items }
 {
     let (batch, undetected) = batch_beside(brief, shared, simulators, word)?;
-    keep_unhit(tests, batch.hits());
+    keep_unhit::<J>(tests, batch.hits());
     publish_batch(brief, shared, share, batch, undetected)?;
     Ok(undetected)
 }
@@ -203,12 +203,12 @@ fn publish_words<
     requires table { share.old.table ≡ shared.now.word.shared.table_id }
     requires unspent { vec_len patterns ≤ share.old.unspent }
     requires wide { All (IsPatternOf J.subject.netlist J.subject.holds) patterns.items }
-    requires cubes { AreTestsOf J.subject.netlist J.subject.holds tests.old.items }
+    requires cubes { AreTestsOf J.subject tests.old.items }
     ensures simulators { simulators.new ≡ simulators.old }
     ensures table { share.new.table ≡ share.old.table }
     ensures unspent { share.old.unspent ≤ share.new.unspent + vec_len patterns }
     ensures fewer { vec_len tests.new ≤ vec_len tests.old }
-    ensures cubes { AreTestsOf J.subject.netlist J.subject.holds tests.new.items }
+    ensures cubes { AreTestsOf J.subject tests.new.items }
 {
     let mut left = patterns;
     let mut undetected = 0;
@@ -220,7 +220,25 @@ fn publish_words<
     Ok(undetected)
 }
 
-/// Publishes the first tests, merged and filled: how many classes are left. The tests of classes that they hit are let go.
+/// The first tests, merged and filled. They are taken out.
+fn first_patterns<J: About>(
+    alloc: Global,
+    tests: &mut Vec<Test>,
+    most: usize,
+    rng: &mut Lcg64Xsh32,
+) -> Result<Vec<Pattern>, NoMemory>
+    requires { AreTestsOf J.subject tests.old.items }
+    ensures fewer { vec_len tests.new ≤ vec_len tests.old }
+    ensures few { IfOk result (λ v. vec_len v + vec_len tests.new ≤ vec_len tests.old) }
+    ensures wide { IfOk result (λ v. All (IsPatternOf J.subject.netlist J.subject.holds) v.items) }
+    ensures cubes { AreTestsOf J.subject tests.new.items }
+{
+    let first = take_first::<J>(tests, most)?;
+    let cubes = cubes_of::<J>(alloc, first)?;
+    patterns_of::<J>(alloc, &cubes, rng)
+}
+
+/// Publishes the first tests, merged and filled. The tests of classes that they hit are let go.
 fn publish_first<
     J: About,
     T: Ledger,
@@ -234,24 +252,27 @@ fn publish_first<
     brief: &Brief<'_, J, E, G, R>,
     simulators: &mut Simulators<'_>,
     rng: &mut Lcg64Xsh32,
-    size: usize,
     lead: &mut Hand<'_, J, T, S, P, U, E>,
-) -> Result<u64, NoMemory>
+    pace: Pace,
+) -> Result<Pace, NoMemory>
     requires simulators { simulators.old ≡ J.subject.netlist }
     ensures simulators { simulators.new ≡ simulators.old }
 {
-    let waiting = mem::replace(&mut lead.tests, Vec::new(brief.alloc));
-    let (cubes, rest) = first_cubes(brief.alloc, waiting, size)?;
-    let patterns = patterns_of::<J>(brief.alloc, &cubes, rng)?;
-    lead.tests = rest;
-    publish_words(
+    let patterns = first_patterns::<J>(brief.alloc, &mut lead.tests, pace.size, rng)?;
+    let shared = lead.shared;
+    let left = publish_words(
         brief,
         simulators,
-        lead.shared,
+        shared,
         &mut lead.share,
         patterns,
         &mut lead.tests,
-    )
+    )?;
+    Ok(Pace {
+        size: batch_size(left, width_of(brief.core)),
+        has_ended: is_enough(brief, shared),
+        ..pace
+    })
 }
 
 /// Publishes once there are as many tests as a batch has, or no class is left to search; else there is one round more.
@@ -280,21 +301,15 @@ fn take_step<
     let waiting = lead.tests.len();
     let is_last = pace.end >= lead.shared.count();
     if waiting < pace.size && !is_last {
-        return hunt_more(brief, crew, pace);
-    }
-    if waiting == 0 {
-        return Ok(Pace {
+        hunt_more(brief, crew, pace)
+    } else if waiting == 0 {
+        Ok(Pace {
             has_ended: true,
             ..pace
-        });
+        })
+    } else {
+        publish_first(brief, simulators, rng, &mut crew[0], pace)
     }
-    let lead = &mut crew[0];
-    let left = publish_first(brief, simulators, rng, pace.size, lead)?;
-    Ok(Pace {
-        size: batch_size(left, width_of(brief.core)),
-        has_ended: is_enough(brief, lead.shared),
-        ..pace
-    })
 }
 
 /// Step after step, until no class is left, or enough is detected.
@@ -371,6 +386,31 @@ fn shares_of<J: About, T: Ledger, S: Ledger, P: Ledger, U: Ledger, E: Engine>(
     Ok(shares)
 }
 
+/// The work of these workers.
+fn work_crew<
+    J: About + Send + Sync,
+    T: Ledger + Send + Sync,
+    S: Ledger + Send + Sync,
+    P: Ledger + Send + Sync,
+    U: Ledger + Send + Sync,
+    E: Engine + Sync,
+    G: Gate + Sync,
+    R: Threads + Wait + Sync,
+>(
+    brief: &Brief<'_, J, E, G, R>,
+    crew: &mut [Hand<'_, J, T, S, P, U, E>],
+    workers: u32,
+    seed: u64,
+) -> Result<(), NoMemory>
+    requires workers { 0 < workers }
+    requires crew { 0 < length crew.old }
+    ensures { length crew.new ≡ length crew.old }
+{
+    let mut rng = Lcg64Xsh32::new(seed, 0);
+    let mut simulators = Simulators::new(brief.alloc, brief.core, workers)?;
+    take_steps(brief, &mut simulators, &mut rng, crew)
+}
+
 /// The work of several workers, and their shares back.
 pub(crate) fn work_rounds<
     J: About + Send + Sync,
@@ -392,9 +432,7 @@ pub(crate) fn work_rounds<
     requires tables { All (λ (t : Tally). t.table ≡ shared.now.word.shared.table_id) shares.items }
     ensures { IfOk result (λ v. vec_len v ≡ workers) }
 {
-    let mut rng = Lcg64Xsh32::new(seed, 0);
-    let mut simulators = Simulators::new(brief.alloc, brief.core, workers)?;
     let mut crew = crew_of(brief.alloc, shared, shares)?;
-    take_steps(brief, &mut simulators, &mut rng, &mut crew)?;
+    work_crew(brief, &mut crew, workers, seed)?;
     shares_of(brief.alloc, crew)
 }
