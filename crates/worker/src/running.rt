@@ -1,11 +1,10 @@
 //! Workers in rounds, and the caller's rest.
 ghost use Rattle.std.specs.Prelude.{◌≡◌, ◌+◌, ◌<◌, ◌≤◌, [], length, IfOk, vec_len};
-ghost use Rattle.std.specs.List.{All};
 ghost use Rattle.std.specs.Option.{option_copied};
 ghost use Rattle.plain_text.specs.Limits.{most_workers};
 ghost use Rattle.list_core.specs.Subjects.{class_count};
 ghost use Rattle.list_core.specs.States.{IsTrueList};
-ghost use Rattle.shared_list.specs.Tally.{Tally, idle_from};
+ghost use Rattle.shared_list.specs.Tally.{idle_from};
 ghost use Rattle.worker.specs.Working.{IsDone, MaySearch};
 
 use crate::errands::{Brief, Errand, brief_of};
