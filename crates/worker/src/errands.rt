@@ -9,7 +9,6 @@ use netlist::{Core, Holds};
 use outside::Gate;
 use std::alloc::Global;
 use std::marker::{Model, PhantomData};
-use std::sync::Wait;
 
 /// What a search is given: threads, memory, the netlist with its held inputs, the engine, and where it passes.
 #[derive(Drop)]
@@ -24,7 +23,7 @@ pub struct Errand<'a, E: Engine, G: Gate, R> {
 
 /// An errand whose netlist, held inputs and engine serve to search what the list is about, and when it is enough. Contracts see it as its goal.
 #[derive(Drop)]
-pub(crate) struct Brief<'a, J: About, E: Engine, G: Gate, R: Wait> {
+pub(crate) struct Brief<'a, J: About, E: Engine, G: Gate, R> {
     pub rt: &'a R,
     pub alloc: Global,
     pub core: &'a Core,
@@ -35,7 +34,7 @@ pub(crate) struct Brief<'a, J: About, E: Engine, G: Gate, R: Wait> {
     pub about: PhantomData<J>,
 }
 
-impl<'a, J: About, E: Engine, G: Gate, R: Wait> Model for Brief<'a, J, E, G, R> {
+impl<'a, J: About, E: Engine, G: Gate, R> Model for Brief<'a, J, E, G, R> {
     ghost use Rattle.std.specs.Prelude.{Option};
     ghost use Rattle.std.specs.Option.{option_copied};
     ghost use Rattle.list_core.specs.declared.goals.Goal.{Goal};
@@ -49,7 +48,7 @@ impl<'a, J: About, E: Engine, G: Gate, R: Wait> Model for Brief<'a, J, E, G, R> 
 }
 
 /// The errand, until it is enough for the goal.
-pub(crate) fn brief_of<'a, J: About, E: Engine, G: Gate, R: Wait>(
+pub(crate) fn brief_of<'a, J: About, E: Engine, G: Gate, R>(
     errand: &Errand<'a, E, G, R>,
     goal: Option<&'a Goal>,
 ) -> Brief<'a, J, E, G, R>

@@ -19,7 +19,6 @@ use netlist::{NoMemory, Point};
 use outside::Gate;
 use rand_pcg::Lcg64Xsh32;
 use std::alloc::Global;
-use std::sync::Wait;
 use word_sim::{Batch, Hit};
 
 /// The cube, filled, with its hit of the claim's class.
@@ -103,7 +102,7 @@ fn close<J: About>(
 }
 
 /// What a search for a claim answers.
-fn outcome_for<J: About, E: Engine, G: Gate, R: Wait>(
+fn outcome_for<J: About, E: Engine, G: Gate, R>(
     brief: &Brief<'_, J, E, G, R>,
     claim: &Claim<J>,
 ) -> Result<Outcome, NoMemory>
@@ -120,7 +119,7 @@ fn outcome_for<J: About, E: Engine, G: Gate, R: Wait>(
 }
 
 /// Works the class, where it is Open.
-fn work_one<J: About, E: Engine, G: Gate, R: Wait>(
+fn work_one<J: About, E: Engine, G: Gate, R>(
     brief: &Brief<'_, J, E, G, R>,
     list: &mut FaultList<J>,
     worker: u32,
@@ -140,7 +139,7 @@ fn work_one<J: About, E: Engine, G: Gate, R: Wait>(
 }
 
 /// Works every class that is still Open.
-fn work_all<J: About, E: Engine, G: Gate, R: Wait>(
+fn work_all<J: About, E: Engine, G: Gate, R>(
     brief: &Brief<'_, J, E, G, R>,
     list: FaultList<J>,
     worker: u32,
@@ -173,7 +172,7 @@ fn is_enough<J: About>(list: &FaultList<J>, goal: Option<&Goal>) -> bool
 }
 
 /// Works every class that is still Open, unless enough is detected.
-pub(crate) fn work_rest<J: About, E: Engine, G: Gate, R: Wait>(
+pub(crate) fn work_rest<J: About, E: Engine, G: Gate, R>(
     brief: &Brief<'_, J, E, G, R>,
     list: FaultList<J>,
     worker: u32,

@@ -71,7 +71,7 @@ pub fn work<J: About, T: Ledger, S: Ledger, P: Ledger, U: Ledger, E: Engine, G: 
 }
 
 /// The room that was kept, or a new one.
-pub(crate) fn room_of<J: About, E: Engine, G: Gate, R: Wait>(
+pub(crate) fn room_of<J: About, E: Engine, G: Gate, R>(
     brief: &Brief<'_, J, E, G, R>,
     kept: Option<E::Room>,
 ) -> Result<E::Room, NoMemory>
@@ -155,7 +155,7 @@ pub(crate) fn searched<
 }
 
 /// What a search for a claim answers. The room comes back.
-fn outcome_in<J: About, E: Engine, G: Gate, R: Wait>(
+fn outcome_in<J: About, E: Engine, G: Gate, R>(
     brief: &Brief<'_, J, E, G, R>,
     claim: &Claim<J>,
     room: E::Room,
