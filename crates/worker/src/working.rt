@@ -64,7 +64,7 @@ pub fn work<J: About, T: Ledger, S: Ledger, P: Ledger, U: Ledger, E: Engine, G: 
     ensures ended { OnOk result (IfNone goal.entry (share.new.ended ≡ true)) }
 {
     let brief = brief_of::<J, E, G, R>(errand, goal);
-    let mut batcher = Batcher::new(errand.alloc, errand.core, seed, share.worker())?;
+    let mut batcher = Batcher::<J>::new(errand.alloc, errand.core, seed, share.worker())?;
     let room = room_of(&brief, None)?;
     let cubes = work_turns(&brief, shared, share, room, &mut batcher)?;
     publish_cubes(&brief, shared, share, &mut batcher, &cubes)
