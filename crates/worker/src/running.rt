@@ -100,14 +100,20 @@ fn run_named<
     ensures true_list { IfOk result (λ l. IsTrueList J.subject l) }
     ensures few { IfOk result (λ l. length l.patterns ≤ class_count J.subject + class_count J.subject) }
 {
+    let Blanks {
+        takes,
+        settles,
+        publishes,
+        unspent,
+    } = blanks;
     let (shared, shares) = Shared::<J, T, S, P, U>::new(
         brief.alloc,
         list,
         workers,
-        blanks.takes,
-        blanks.settles,
-        blanks.publishes,
-        blanks.unspent,
+        takes,
+        settles,
+        publishes,
+        unspent,
     )?;
     let list = run_shared(brief, shared, shares, workers, seed)?;
     work_rest(brief, list, workers, seed)
