@@ -24,8 +24,10 @@ use Rattle.redundancy_cert.specs.TestCubes.{IsTestCube}
 use Rattle.list_core.specs.States.{MaySettle}
 use Rattle.list_core.specs.Subjects.{Subject, RepresentsIn, HaveLines}
 use Rattle.list_core.specs.Batches.{IsTrueHit, IsTrueBatch}
+use Rattle.list_core.specs.declared.goals.Goal.{Goal}
+use Rattle.list_core.specs.declared.verdicts.Verdict.{Verdict}
 use Rattle.shared_list.specs.Tally.{Tally}
-use Rattle.worker.specs.Working.{MaySearch}
+use Rattle.worker.specs.Working.{IsDone, MaySearch, NoneOpen}
 use Rattle.worker.specs.declared.outcomes.Outcome.{Outcome}
 use Rattle.worker.specs.inner.Outcomes.{IsOutcome}
 use Rattle.shared_list.specs.Outcomes.{IsNone}
@@ -175,6 +177,11 @@ whatever_comes (Ok x) p = p
 whatever_comes (Err e) p = tt
 
 -- ---- where there is no goal
+
+-- no class is Open: enough whatever the goal
+pub done_with_none : (o : Option Goal) (verdicts : List Verdict) → NoneOpen verdicts → IsDone o verdicts
+done_with_none None verdicts none = none
+done_with_none (Some goal) verdicts none = inl none
 
 pub if_none_given : {T P Q : Type 0} (o : Option (Bor T)) → (P → Q) → IfNone (option_copied o) P → IfNone o Q
 if_none_given None f p = f p

@@ -38,6 +38,6 @@ impl<'a, J: About, T: Ledger, S: Ledger, P: Ledger, U: Ledger, E: Engine> Model
     ghost invariant = { λ a.
         (a.share.table ≡ a.shared.now.word.shared.table_id)
         × IfSome a.room (E.serves J.subject.netlist J.subject.holds)
-        × AreTestsOf J.subject.netlist J.subject.holds a.tests.items
+        × AreTestsOf J.subject a.tests.items
         × (vec_len a.claims + vec_len a.tests ≤ a.share.unspent) };
 }

@@ -8,7 +8,7 @@ ghost use Rattle.shared_list.specs.Outcomes.{MatchDrawn};
 ghost use Rattle.worker.specs.inner.Tests.{AreTestsOf};
 
 use crate::adding::add;
-use crate::errands::Errand;
+use crate::errands::Brief;
 use crate::hands::{Hand, Test};
 use crate::working::{room_of, searched};
 use cubes::Cube;
@@ -47,9 +47,9 @@ fn keep_test<J: About>(
     found: Option<Cube>,
 ) -> Result<(), NoMemory>
     requires cube { IfSome found (IsCubeOf J.subject.netlist J.subject.holds) }
-    requires cubes { AreTestsOf J.subject.netlist J.subject.holds tests.old.items }
+    requires cubes { AreTestsOf J.subject tests.old.items }
     ensures few { vec_len tests.new ≤ vec_len tests.old + 1 }
-    ensures cubes { AreTestsOf J.subject.netlist J.subject.holds tests.new.items }
+    ensures cubes { AreTestsOf J.subject tests.new.items }
 {
     match found {
         Some(cube) => add(tests, Test { class, cube }),
@@ -59,7 +59,7 @@ fn keep_test<J: About>(
 
 /// Searches a claim, unless its class has a verdict by now. The room comes back.
 fn hunt_claim<J: About, T: Ledger, S: Ledger, P: Ledger, U: Ledger, E: Engine, G: Gate, R: Wait>(
-    errand: &Errand<'_, J, E, G, R>,
+    brief: &Brief<'_, J, E, G, R>,
     shared: &Shared<J, T, S, P, U>,
     share: &mut Share<T, S, P, U>,
     claim: Claim<J>,
@@ -68,25 +68,25 @@ fn hunt_claim<J: About, T: Ledger, S: Ledger, P: Ledger, U: Ledger, E: Engine, G
 ) -> Result<E::Room, NoMemory>
     requires table { share.old.table ≡ shared.now.word.shared.table_id }
     requires room { E.serves J.subject.netlist J.subject.holds room }
-    requires cubes { AreTestsOf J.subject.netlist J.subject.holds tests.old.items }
+    requires cubes { AreTestsOf J.subject tests.old.items }
     ensures table { share.new.table ≡ share.old.table }
     ensures unspent { share.new.unspent ≡ share.old.unspent }
     ensures few { vec_len tests.new ≤ vec_len tests.old + 1 }
     ensures room { IfOk result (E.serves J.subject.netlist J.subject.holds) }
-    ensures cubes { AreTestsOf J.subject.netlist J.subject.holds tests.new.items }
+    ensures cubes { AreTestsOf J.subject tests.new.items }
 {
     let class = claim.class();
-    if !shared.is_open(errand.rt, class) {
+    if !shared.is_open(brief.rt, class) {
         return Ok(room);
     }
-    let (found, kept) = searched(errand, shared, share, claim, room)?;
+    let (found, kept) = searched(brief, shared, share, claim, room)?;
     keep_test::<J>(tests, class, found)?;
     Ok(kept)
 }
 
 /// Draws a class, and searches it, if there is one below the end: the room back, and whether there was one to draw.
 fn take_turn<J: About, T: Ledger, S: Ledger, P: Ledger, U: Ledger, E: Engine, G: Gate, R: Wait>(
-    errand: &Errand<'_, J, E, G, R>,
+    brief: &Brief<'_, J, E, G, R>,
     end: u32,
     shared: &Shared<J, T, S, P, U>,
     share: &mut Share<T, S, P, U>,
@@ -96,21 +96,22 @@ fn take_turn<J: About, T: Ledger, S: Ledger, P: Ledger, U: Ledger, E: Engine, G:
 ) -> Result<(E::Room, bool), NoMemory>
     requires table { share.old.table ≡ shared.now.word.shared.table_id }
     requires room { E.serves J.subject.netlist J.subject.holds room }
-    requires cubes { AreTestsOf J.subject.netlist J.subject.holds tests.old.items }
+    requires cubes { AreTestsOf J.subject tests.old.items }
     requires unspent { vec_len claims.old + vec_len tests.old ≤ share.old.unspent }
     ensures table { share.new.table ≡ share.old.table }
     ensures room { IfOk result (λ r. E.serves J.subject.netlist J.subject.holds r.0) }
-    ensures cubes { AreTestsOf J.subject.netlist J.subject.holds tests.new.items }
+    ensures cubes { AreTestsOf J.subject tests.new.items }
     ensures unspent { vec_len claims.new + vec_len tests.new ≤ share.new.unspent }
 {
-    match drawn(errand.rt, shared, share, claims) {
+    match drawn(brief.rt, shared, share, claims) {
         Drawn::Claim(claim) => {
             if claim.class() < end {
-                let kept = hunt_claim(errand, shared, share, claim, room, tests)?;
-                return Ok((kept, true));
+                let kept = hunt_claim(brief, shared, share, claim, room, tests)?;
+                Ok((kept, true))
+            } else {
+                add(claims, claim)?;
+                Ok((room, false))
             }
-            add(claims, claim)?;
-            Ok((room, false))
         }
         Drawn::Gone(_) => Ok((room, true)),
         Drawn::None => Ok((room, false)),
@@ -119,7 +120,7 @@ fn take_turn<J: About, T: Ledger, S: Ledger, P: Ledger, U: Ledger, E: Engine, G:
 
 /// Turn after turn, until no class is left below the end. The room comes back.
 fn take_turns<J: About, T: Ledger, S: Ledger, P: Ledger, U: Ledger, E: Engine, G: Gate, R: Wait>(
-    errand: &Errand<'_, J, E, G, R>,
+    brief: &Brief<'_, J, E, G, R>,
     end: u32,
     shared: &Shared<J, T, S, P, U>,
     share: &mut Share<T, S, P, U>,
@@ -129,20 +130,20 @@ fn take_turns<J: About, T: Ledger, S: Ledger, P: Ledger, U: Ledger, E: Engine, G
 ) -> Result<E::Room, NoMemory>
     requires table { share.old.table ≡ shared.now.word.shared.table_id }
     requires room { E.serves J.subject.netlist J.subject.holds room }
-    requires cubes { AreTestsOf J.subject.netlist J.subject.holds tests.old.items }
+    requires cubes { AreTestsOf J.subject tests.old.items }
     requires unspent { vec_len claims.old + vec_len tests.old ≤ share.old.unspent }
     ensures table { share.new.table ≡ share.old.table }
     ensures room { IfOk result (E.serves J.subject.netlist J.subject.holds) }
-    ensures cubes { AreTestsOf J.subject.netlist J.subject.holds tests.new.items }
+    ensures cubes { AreTestsOf J.subject tests.new.items }
     ensures unspent { vec_len claims.new + vec_len tests.new ≤ share.new.unspent }
 {
     let mut room = room;
     let mut goes_on = true;
-    for _ in errand.rt.forever() {
+    for _ in brief.rt.forever() {
         if !goes_on {
             break;
         }
-        let (kept, was_drawn) = take_turn(errand, end, shared, share, claims, room, tests)?;
+        let (kept, was_drawn) = take_turn(brief, end, shared, share, claims, room, tests)?;
         room = kept;
         goes_on = was_drawn;
     }
@@ -159,12 +160,12 @@ pub(crate) fn hunt<
     E: Engine,
     G: Gate,
     R: Wait,
->(errand: &Errand<'_, J, E, G, R>, end: u32, hand: &mut Hand<'_, J, T, S, P, U, E>) {
-    let Ok(room) = room_of(errand, hand.room.take()) else {
+>(brief: &Brief<'_, J, E, G, R>, end: u32, hand: &mut Hand<'_, J, T, S, P, U, E>) {
+    let Ok(room) = room_of(brief, hand.room.take()) else {
         return;
     };
     let kept = take_turns(
-        errand,
+        brief,
         end,
         hand.shared,
         &mut hand.share,

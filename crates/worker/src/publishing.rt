@@ -5,26 +5,65 @@ ghost use Rattle.cubes.specs.Cubes.{IsCubeOf, IsPatternOf};
 ghost use Rattle.list_core.specs.Batches.{IsTrueBatch};
 ghost use Rattle.list_core.specs.Subjects.{HaveLines};
 
-use crate::errands::Errand;
+use crate::errands::Brief;
 use crate::simulators::Simulators;
 use cubes::{Cube, Pattern, fill_all, merge};
 use evidence::Engine;
 use list_core::{About, Left};
-use netlist::NoMemory;
+use netlist::{Core, NoMemory};
 use outside::{Gate, Stage};
-use rand_core::Rng;
+use rand_pcg::Lcg64Xsh32;
 use shared_list::{Share, Shared};
 use std::alloc::Global;
+use std::marker::{Model, PhantomData};
 use std::sync::Wait;
 use std::sync::ledger::Ledger;
 use std::thread::Threads;
 use word_sim::{Batch, Simulator};
 
+/// What one worker makes batches with: the stream that fills cubes, and a simulator of the list's netlist. Contracts see the netlist.
+#[derive(Drop)]
+pub(crate) struct Batcher<'a, J: About> {
+    rng: Lcg64Xsh32,
+    simulator: Simulator<'a>,
+    about: PhantomData<J>,
+}
+
+impl<'a, J: About> Model for Batcher<'a, J> {
+    ghost use Rattle.std.specs.Prelude.{◌≡◌};
+    ghost use Rattle.statement.specs.Netlists.{Netlist};
+
+    ghost Value = { Netlist };
+
+    ghost view = { λ b. b.simulator };
+
+    ghost invariant = { λ b. b.simulator ≡ J.subject.netlist };
+}
+
+impl<'a, J: About> Batcher<'a, J> {
+    /// For the worker of this number.
+    pub(crate) fn new(
+        alloc: Global,
+        core: &'a Core,
+        seed: u64,
+        worker: u32,
+    ) -> Result<Batcher<'a, J>, NoMemory>
+        requires { core.now ≡ J.subject.netlist }
+    {
+        let simulator = Simulator::new(alloc, core)?;
+        Ok(Batcher {
+            rng: Lcg64Xsh32::new(seed, worker as u64),
+            simulator,
+            about: PhantomData,
+        })
+    }
+}
+
 /// Fewer cubes, filled.
-pub(crate) fn patterns_of<J: About, N: Rng>(
+pub(crate) fn patterns_of<J: About>(
     alloc: Global,
     cubes: &[Cube],
-    rng: &mut N,
+    rng: &mut Lcg64Xsh32,
 ) -> Result<Vec<Pattern>, NoMemory>
     requires { All (IsCubeOf J.subject.netlist J.subject.holds) cubes.now }
     ensures few { IfOk result (λ v. vec_len v ≤ length cubes.now) }
@@ -54,33 +93,20 @@ fn batch_of<J: About>(
 }
 
 /// The cubes as a batch, merged and filled, with what it hits of the classes that are left; and how many of these it leaves.
-fn batch_for<
-    J: About,
-    T: Ledger,
-    S: Ledger,
-    P: Ledger,
-    U: Ledger,
-    E: Engine,
-    G: Gate,
-    N: Rng,
-    R: Wait,
->(
-    errand: &Errand<'_, J, E, G, R>,
+fn batch_for<J: About, T: Ledger, S: Ledger, P: Ledger, U: Ledger, E: Engine, G: Gate, R: Wait>(
+    brief: &Brief<'_, J, E, G, R>,
     shared: &Shared<J, T, S, P, U>,
-    simulator: &mut Simulator<'_>,
-    rng: &mut N,
+    batcher: &mut Batcher<'_, J>,
     cubes: &[Cube],
 ) -> Result<(Batch, u64), NoMemory>
-    requires simulator { simulator.old ≡ J.subject.netlist }
     requires wide { All (IsCubeOf J.subject.netlist J.subject.holds) cubes.now }
     requires few { length cubes.now ≤ 64 }
     ensures few { IfOk result (λ r. length r.0.patterns ≤ length cubes.now) }
     ensures true_batch { IfOk result (λ r. IsTrueBatch J.subject r.0) }
-    ensures simulator { simulator.new ≡ simulator.old }
 {
-    let patterns = patterns_of::<J, N>(errand.alloc, cubes, rng)?;
-    let left = shared.undetected(errand.rt, errand.alloc)?;
-    let batch = batch_of(errand.alloc, simulator, patterns, &left)?;
+    let patterns = patterns_of::<J>(brief.alloc, cubes, &mut batcher.rng)?;
+    let left = shared.undetected(brief.rt, brief.alloc)?;
+    let batch = batch_of(brief.alloc, &mut batcher.simulator, patterns, &left)?;
     let undetected = left.classes().len().saturating_sub(batch.hits().len()) as u64;
     Ok((batch, undetected))
 }
@@ -96,7 +122,7 @@ pub(crate) fn batch_beside<
     G: Gate,
     R: Threads + Wait + Sync,
 >(
-    errand: &Errand<'_, J, E, G, R>,
+    brief: &Brief<'_, J, E, G, R>,
     shared: &Shared<J, T, S, P, U>,
     simulators: &mut Simulators<'_>,
     patterns: Vec<Pattern>,
@@ -108,9 +134,9 @@ pub(crate) fn batch_beside<
     ensures true_batch { IfOk result (λ r. IsTrueBatch J.subject r.0) }
     ensures simulators { simulators.new ≡ simulators.old }
 {
-    let left = shared.undetected(errand.rt, errand.alloc)?;
+    let left = shared.undetected(brief.rt, brief.alloc)?;
     let classes = left.classes();
-    let hits = simulators.hits(errand.rt, errand.alloc, &patterns, classes)?;
+    let hits = simulators.hits(brief.rt, brief.alloc, &patterns, classes)?;
     let undetected = classes.len().saturating_sub(hits.len()) as u64;
     Ok((Batch::new(patterns, hits), undetected))
 }
@@ -126,7 +152,7 @@ pub(crate) fn publish_batch<
     G: Gate,
     R: Wait,
 >(
-    errand: &Errand<'_, J, E, G, R>,
+    brief: &Brief<'_, J, E, G, R>,
     shared: &Shared<J, T, S, P, U>,
     share: &mut Share<T, S, P, U>,
     batch: Batch,
@@ -139,10 +165,10 @@ pub(crate) fn publish_batch<
     ensures ended { share.new.ended ≡ share.old.ended }
     ensures unspent { share.old.unspent ≤ share.new.unspent + length batch.patterns }
 {
-    if let Err((NoMemory, _)) = shared.publish(errand.rt, share, batch) {
+    if let Err((NoMemory, _)) = shared.publish(brief.rt, share, batch) {
         return Err(NoMemory);
     }
-    errand
+    brief
         .stage
         .at(share.worker(), Stage::Published { undetected });
     Ok(())
@@ -157,25 +183,21 @@ pub(crate) fn publish_cubes<
     U: Ledger,
     E: Engine,
     G: Gate,
-    N: Rng,
     R: Wait,
 >(
-    errand: &Errand<'_, J, E, G, R>,
+    brief: &Brief<'_, J, E, G, R>,
     shared: &Shared<J, T, S, P, U>,
     share: &mut Share<T, S, P, U>,
-    simulator: &mut Simulator<'_>,
-    rng: &mut N,
+    batcher: &mut Batcher<'_, J>,
     cubes: &[Cube],
 ) -> Result<(), NoMemory>
     requires table { share.old.table ≡ shared.now.word.shared.table_id }
-    requires simulator { simulator.old ≡ J.subject.netlist }
     requires wide { All (IsCubeOf J.subject.netlist J.subject.holds) cubes.now }
     requires few { length cubes.now ≤ 64 }
     requires unspent { length cubes.now ≤ share.old.unspent }
     ensures table { share.new.table ≡ share.old.table }
     ensures ended { share.new.ended ≡ share.old.ended }
-    ensures simulator { simulator.new ≡ simulator.old }
 {
-    let (batch, undetected) = batch_for(errand, shared, simulator, rng, cubes)?;
-    publish_batch(errand, shared, share, batch, undetected)
+    let (batch, undetected) = batch_for(brief, shared, batcher, cubes)?;
+    publish_batch(brief, shared, share, batch, undetected)
 }

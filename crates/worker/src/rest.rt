@@ -2,32 +2,32 @@
 ghost use Rattle.std.specs.Prelude.{[], ◌∷◌, ◌≡◌, ◌+◌, ◌<◌, ◌≤◌, ◌^◌, length, IsTrue, IfOk, OnOk};
 ghost use Rattle.std.specs.Option.{option_copied};
 ghost use Rattle.redundancy_cert.specs.TestCubes.{IsTestCube};
-ghost use Rattle.list_core.specs.Subjects.{HaveLines, class_count};
+ghost use Rattle.list_core.specs.Subjects.{class_count};
 ghost use Rattle.list_core.specs.Batches.{IsTrueBatch};
 ghost use Rattle.list_core.specs.States.{IsTrueList, MaySettle};
-ghost use Rattle.netlist.specs.Holds.{AreHoldsOf};
-ghost use Rattle.worker.specs.Working.{IsDone, MaySearch, NoneOpen};
+ghost use Rattle.worker.specs.Working.{IsDone, NoneOpen};
 ghost use Rattle.worker.specs.inner.Closing.{IsClosed};
 ghost use Rattle.worker.specs.inner.Outcomes.{IsOutcome};
 
 use crate::adding::alone;
+use crate::errands::Brief;
 use crate::outcomes::{Outcome, outcome_of};
 use cubes::{Cube, fill};
 use evidence::{Engine, Evidence};
 use list_core::{About, Claim, FaultList, Goal};
-use netlist::{Core, Holds, NoMemory, Point};
-use rand_core::Rng;
+use netlist::{NoMemory, Point};
+use outside::Gate;
 use rand_pcg::Lcg64Xsh32;
 use std::alloc::Global;
 use word_sim::{Batch, Hit};
 
 /// The cube, filled, with its hit of the claim's class.
-fn single<J: About, N: Rng>(
+fn single<J: About>(
     alloc: Global,
     claim: &Claim<J>,
     cube: &Cube,
     point: Point,
-    rng: &mut N,
+    rng: &mut Lcg64Xsh32,
 ) -> Result<Batch, NoMemory>
     requires { IsTestCube claim.now.fault J.subject.netlist J.subject.holds cube.now point }
     ensures true_batch { IfOk result (IsTrueBatch J.subject) }
@@ -48,14 +48,14 @@ fn single<J: About, N: Rng>(
 }
 
 /// Publishes the cube, filled, with its hit of the claim's class.
-fn publish_single<J: About, N: Rng>(
+fn publish_single<J: About>(
     alloc: Global,
     list: &mut FaultList<J>,
     worker: u32,
     claim: &Claim<J>,
     cube: &Cube,
     point: Point,
-    rng: &mut N,
+    rng: &mut Lcg64Xsh32,
 ) -> Result<(), NoMemory>
     requires test { IsTestCube claim.now.fault J.subject.netlist J.subject.holds cube.now point }
     requires few { length list.old.patterns + 1 < 2 ^ 32 }
@@ -78,13 +78,13 @@ fn settle_one<J: About>(list: &mut FaultList<J>, claim: Claim<J>, evidence: Evid
 }
 
 /// Publishes a test, or settles the claim.
-fn close<J: About, N: Rng>(
+fn close<J: About>(
     alloc: Global,
     list: &mut FaultList<J>,
     worker: u32,
     claim: Claim<J>,
     outcome: Outcome,
-    rng: &mut N,
+    rng: &mut Lcg64Xsh32,
 ) -> Result<(), NoMemory>
     requires outcome { IsOutcome J.subject claim.fault outcome }
     requires few { length list.old.patterns + 1 < 2 ^ 32 }
@@ -101,18 +101,31 @@ fn close<J: About, N: Rng>(
     }
 }
 
+/// What a search for a claim answers.
+fn outcome_for<J: About, E: Engine, G: Gate, R>(
+    brief: &Brief<'_, J, E, G, R>,
+    claim: &Claim<J>,
+) -> Result<Outcome, NoMemory>
+    ensures { IfOk result (IsOutcome J.subject claim.now.fault) }
+{
+    let found = brief.engine.search(
+        brief.alloc,
+        brief.core,
+        claim.fault(),
+        claim.limit(),
+        brief.holds,
+    )?;
+    Ok(outcome_of(found))
+}
+
 /// Works the class, where it is Open.
-fn work_one<J: About, E: Engine, N: Rng>(
-    alloc: Global,
+fn work_one<J: About, E: Engine, G: Gate, R>(
+    brief: &Brief<'_, J, E, G, R>,
     list: &mut FaultList<J>,
     worker: u32,
     class: u32,
-    core: &Core,
-    engine: &E,
-    rng: &mut N,
-    holds: &Holds,
+    rng: &mut Lcg64Xsh32,
 ) -> Result<(), NoMemory>
-    requires subject { MaySearch J.subject core.now holds.now E.refutes }
     requires class { class < class_count J.subject }
     requires claims { list.old.claims < class_count J.subject }
     requires few { length list.old.patterns + 1 < 2 ^ 32 }
@@ -121,21 +134,17 @@ fn work_one<J: About, E: Engine, N: Rng>(
     let Some(claim) = list.claim(worker, class) else {
         return Ok(());
     };
-    let found = engine.search(alloc, core, claim.fault(), claim.limit(), holds)?;
-    close(alloc, list, worker, claim, outcome_of(found), rng)
+    let outcome = outcome_for(brief, &claim)?;
+    close(brief.alloc, list, worker, claim, outcome, rng)
 }
 
 /// Works every class that is still Open.
-fn work_all<J: About, E: Engine>(
-    alloc: Global,
+fn work_all<J: About, E: Engine, G: Gate, R>(
+    brief: &Brief<'_, J, E, G, R>,
     list: FaultList<J>,
     worker: u32,
-    core: &Core,
-    engine: &E,
     seed: u64,
-    holds: &Holds,
 ) -> Result<FaultList<J>, NoMemory>
-    requires subject { MaySearch J.subject core.now holds.now E.refutes }
     requires claims { list.claims ≡ 0 }
     requires few { length list.patterns ≤ class_count J.subject }
     ensures closed { IfOk result (λ l. NoneOpen l.verdicts) }
@@ -146,9 +155,7 @@ fn work_all<J: About, E: Engine>(
     let mut rng = Lcg64Xsh32::new(seed, worker as u64);
     list.true_list();
     for class in 0..list.count() {
-        work_one(
-            alloc, &mut list, worker, class, core, engine, &mut rng, holds,
-        )?;
+        work_one(brief, &mut list, worker, class, &mut rng)?;
     }
     list.true_list();
     Ok(list)
@@ -165,30 +172,21 @@ fn is_enough<J: About>(list: &FaultList<J>, goal: Option<&Goal>) -> bool
 }
 
 /// Works every class that is still Open, unless enough is detected.
-pub fn work_rest<J: About, E: Engine>(
-    alloc: Global,
+pub(crate) fn work_rest<J: About, E: Engine, G: Gate, R>(
+    brief: &Brief<'_, J, E, G, R>,
     list: FaultList<J>,
     worker: u32,
-    core: &Core,
-    engine: &E,
     seed: u64,
-    holds: &Holds,
-    goal: Option<&Goal>,
 ) -> Result<FaultList<J>, NoMemory>
-    requires core { core.now ≡ J.subject.netlist }
-    requires lines { HaveLines J.subject }
-    requires limit { 1 ≤ J.subject.limit }
-    requires held { (holds.now ≡ J.subject.holds) × AreHoldsOf core.now holds.now }
-    requires kind { E.refutes ≡ J.subject.refutes }
     requires claims { list.claims ≡ 0 }
     requires few { length list.patterns ≤ class_count J.subject }
-    ensures closed { IfOk result (λ l. IsDone (option_copied goal.entry) l.verdicts) }
+    ensures closed { IfOk result (λ l. IsDone brief.now l.verdicts) }
     ensures true_list { IfOk result (λ l. IsTrueList J.subject l) }
     ensures few { IfOk result (λ l. length l.patterns ≤ class_count J.subject + class_count J.subject) }
 {
-    if is_enough(&list, goal) {
+    if is_enough(&list, brief.goal) {
         list.true_list();
         return Ok(list);
     }
-    work_all(alloc, list, worker, core, engine, seed, holds)
+    work_all(brief, list, worker, seed)
 }

@@ -15,8 +15,8 @@ ghost use Rattle.shared_list.specs.Tally.{Tally};
 ghost use Rattle.worker.specs.inner.Tests.{AreTestsOf};
 
 use crate::adding::add;
-use crate::errands::Errand;
-use crate::gathering::{first_cubes, gather, keep_unhit};
+use crate::errands::Brief;
+use crate::gathering::{cubes_of, gather, keep_unhit, take_first};
 use crate::hands::{Hand, Test};
 use crate::hunting::hunt;
 use crate::publishing::{batch_beside, patterns_of, publish_batch};
@@ -27,14 +27,13 @@ use evidence::Engine;
 use list_core::About;
 use netlist::{Core, NoMemory};
 use outside::Gate;
-use rand_core::Rng;
 use rand_pcg::Lcg64Xsh32;
 use shared_list::{Share, Shared};
 use std::alloc::Global;
 use std::sync::Wait;
 use std::sync::ledger::Ledger;
+use std::thread;
 use std::thread::Threads;
-use std::{mem, thread};
 
 /// For fewer classes no thread is begun.
 const FEW: u32 = 4;
@@ -89,17 +88,12 @@ fn hunt_beside<
     E: Engine + Sync,
     G: Gate + Sync,
     R: Threads + Wait + Sync,
->(
-    errand: &Errand<'_, J, E, G, R>,
-    end: u32,
-    threads: usize,
-    crew: &mut [Hand<'_, J, T, S, P, U, E>],
-)
+>(brief: &Brief<'_, J, E, G, R>, end: u32, threads: usize, crew: &mut [Hand<'_, J, T, S, P, U, E>])
     requires { 0 < threads }
     ensures { length crew.new ≡ length crew.old }
 {
-    let part = move |_i: usize, hand: &mut Hand<J, T, S, P, U, E>| hunt(errand, end, hand);
-    thread::for_each_mut(errand.rt, crew, threads, &part);
+    let part = move |_i: usize, hand: &mut Hand<J, T, S, P, U, E>| hunt(brief, end, hand);
+    thread::for_each_mut(brief.rt, crew, threads, &part);
 }
 
 /// Refuses to go on where memory was refused to some worker.
@@ -125,7 +119,7 @@ fn hunt_more<
     G: Gate + Sync,
     R: Threads + Wait + Sync,
 >(
-    errand: &Errand<'_, J, E, G, R>,
+    brief: &Brief<'_, J, E, G, R>,
     crew: &mut [Hand<'_, J, T, S, P, U, E>],
     pace: Pace,
 ) -> Result<Pace, NoMemory>
@@ -135,10 +129,10 @@ fn hunt_more<
     let lead = &crew[0];
     let waiting = lead.tests.len();
     let missing = pace.size.saturating_sub(waiting);
-    let more = wanted(missing, pace.closed, errand.goal.is_some());
-    let end = lead.shared.behind(errand.rt, pace.end, more);
+    let more = wanted(missing, pace.closed, brief.goal.is_some());
+    let end = lead.shared.behind(brief.rt, pace.end, more);
     let threads = if more < FEW { 1 } else { crew.len() };
-    hunt_beside(errand, end, threads, crew);
+    hunt_beside(brief, end, threads, crew);
     check_rooms(crew)?;
     gather(crew)?;
     let lead = &crew[0];
@@ -162,7 +156,7 @@ fn publish_word<
     G: Gate,
     R: Threads + Wait + Sync,
 >(
-    errand: &Errand<'_, J, E, G, R>,
+    brief: &Brief<'_, J, E, G, R>,
     simulators: &mut Simulators<'_>,
     shared: &Shared<J, T, S, P, U>,
     share: &mut Share<T, S, P, U>,
@@ -174,16 +168,16 @@ fn publish_word<
     requires few { vec_len word ≤ 64 }
     requires unspent { vec_len word ≤ share.old.unspent }
     requires wide { All (IsPatternOf J.subject.netlist J.subject.holds) word.items }
-    requires cubes { AreTestsOf J.subject.netlist J.subject.holds tests.old.items }
+    requires cubes { AreTestsOf J.subject tests.old.items }
     ensures simulators { simulators.new ≡ simulators.old }
     ensures table { share.new.table ≡ share.old.table }
     ensures unspent { share.old.unspent ≤ share.new.unspent + vec_len word }
     ensures fewer { vec_len tests.new ≤ vec_len tests.old }
-    ensures cubes { AreTestsOf J.subject.netlist J.subject.holds tests.new.items }
+    ensures cubes { AreTestsOf J.subject tests.new.items }
 {
-    let (batch, undetected) = batch_beside(errand, shared, simulators, word)?;
-    keep_unhit(tests, batch.hits());
-    publish_batch(errand, shared, share, batch, undetected)?;
+    let (batch, undetected) = batch_beside(brief, shared, simulators, word)?;
+    keep_unhit::<J>(tests, batch.hits());
+    publish_batch(brief, shared, share, batch, undetected)?;
     Ok(undetected)
 }
 
@@ -198,7 +192,7 @@ fn publish_words<
     G: Gate,
     R: Threads + Wait + Sync,
 >(
-    errand: &Errand<'_, J, E, G, R>,
+    brief: &Brief<'_, J, E, G, R>,
     simulators: &mut Simulators<'_>,
     shared: &Shared<J, T, S, P, U>,
     share: &mut Share<T, S, P, U>,
@@ -209,24 +203,42 @@ fn publish_words<
     requires table { share.old.table ≡ shared.now.word.shared.table_id }
     requires unspent { vec_len patterns ≤ share.old.unspent }
     requires wide { All (IsPatternOf J.subject.netlist J.subject.holds) patterns.items }
-    requires cubes { AreTestsOf J.subject.netlist J.subject.holds tests.old.items }
+    requires cubes { AreTestsOf J.subject tests.old.items }
     ensures simulators { simulators.new ≡ simulators.old }
     ensures table { share.new.table ≡ share.old.table }
     ensures unspent { share.old.unspent ≤ share.new.unspent + vec_len patterns }
     ensures fewer { vec_len tests.new ≤ vec_len tests.old }
-    ensures cubes { AreTestsOf J.subject.netlist J.subject.holds tests.new.items }
+    ensures cubes { AreTestsOf J.subject tests.new.items }
 {
     let mut left = patterns;
     let mut undetected = 0;
     while !left.is_empty() {
         let later = left.split_off(FULL.min(left.len()))?;
-        undetected = publish_word(errand, simulators, shared, share, left, tests)?;
+        undetected = publish_word(brief, simulators, shared, share, left, tests)?;
         left = later;
     }
     Ok(undetected)
 }
 
-/// Publishes the first tests, merged and filled: how many classes are left. The tests of classes that they hit are let go.
+/// The first tests, merged and filled. They are taken out.
+fn first_patterns<J: About>(
+    alloc: Global,
+    tests: &mut Vec<Test>,
+    most: usize,
+    rng: &mut Lcg64Xsh32,
+) -> Result<Vec<Pattern>, NoMemory>
+    requires { AreTestsOf J.subject tests.old.items }
+    ensures fewer { vec_len tests.new ≤ vec_len tests.old }
+    ensures few { IfOk result (λ v. vec_len v + vec_len tests.new ≤ vec_len tests.old) }
+    ensures wide { IfOk result (λ v. All (IsPatternOf J.subject.netlist J.subject.holds) v.items) }
+    ensures cubes { AreTestsOf J.subject tests.new.items }
+{
+    let first = take_first::<J>(tests, most)?;
+    let cubes = cubes_of::<J>(alloc, first)?;
+    patterns_of::<J>(alloc, &cubes, rng)
+}
+
+/// Publishes the first tests, merged and filled. The tests of classes that they hit are let go.
 fn publish_first<
     J: About,
     T: Ledger,
@@ -235,30 +247,32 @@ fn publish_first<
     U: Ledger,
     E: Engine,
     G: Gate,
-    N: Rng,
     R: Threads + Wait + Sync,
 >(
-    errand: &Errand<'_, J, E, G, R>,
+    brief: &Brief<'_, J, E, G, R>,
     simulators: &mut Simulators<'_>,
-    rng: &mut N,
-    size: usize,
+    rng: &mut Lcg64Xsh32,
     lead: &mut Hand<'_, J, T, S, P, U, E>,
-) -> Result<u64, NoMemory>
+    pace: Pace,
+) -> Result<Pace, NoMemory>
     requires simulators { simulators.old ≡ J.subject.netlist }
     ensures simulators { simulators.new ≡ simulators.old }
 {
-    let waiting = mem::replace(&mut lead.tests, Vec::new(errand.alloc));
-    let (cubes, rest) = first_cubes(errand.alloc, waiting, size)?;
-    let patterns = patterns_of::<J, N>(errand.alloc, &cubes, rng)?;
-    lead.tests = rest;
-    publish_words(
-        errand,
+    let patterns = first_patterns::<J>(brief.alloc, &mut lead.tests, pace.size, rng)?;
+    let shared = lead.shared;
+    let left = publish_words(
+        brief,
         simulators,
-        lead.shared,
+        shared,
         &mut lead.share,
         patterns,
         &mut lead.tests,
-    )
+    )?;
+    Ok(Pace {
+        size: batch_size(left, width_of(brief.core)),
+        has_ended: is_enough(brief, shared),
+        ..pace
+    })
 }
 
 /// Publishes once there are as many tests as a batch has, or no class is left to search; else there is one round more.
@@ -270,12 +284,11 @@ fn take_step<
     U: Ledger + Send + Sync,
     E: Engine + Sync,
     G: Gate + Sync,
-    N: Rng,
     R: Threads + Wait + Sync,
 >(
-    errand: &Errand<'_, J, E, G, R>,
+    brief: &Brief<'_, J, E, G, R>,
     simulators: &mut Simulators<'_>,
-    rng: &mut N,
+    rng: &mut Lcg64Xsh32,
     crew: &mut [Hand<'_, J, T, S, P, U, E>],
     pace: Pace,
 ) -> Result<Pace, NoMemory>
@@ -288,21 +301,15 @@ fn take_step<
     let waiting = lead.tests.len();
     let is_last = pace.end >= lead.shared.count();
     if waiting < pace.size && !is_last {
-        return hunt_more(errand, crew, pace);
-    }
-    if waiting == 0 {
-        return Ok(Pace {
+        hunt_more(brief, crew, pace)
+    } else if waiting == 0 {
+        Ok(Pace {
             has_ended: true,
             ..pace
-        });
+        })
+    } else {
+        publish_first(brief, simulators, rng, &mut crew[0], pace)
     }
-    let lead = &mut crew[0];
-    let left = publish_first(errand, simulators, rng, pace.size, lead)?;
-    Ok(Pace {
-        size: batch_size(left, width_of(errand.core)),
-        has_ended: is_enough(errand, lead.shared),
-        ..pace
-    })
 }
 
 /// Step after step, until no class is left, or enough is detected.
@@ -314,12 +321,11 @@ fn take_steps<
     U: Ledger + Send + Sync,
     E: Engine + Sync,
     G: Gate + Sync,
-    N: Rng,
     R: Threads + Wait + Sync,
 >(
-    errand: &Errand<'_, J, E, G, R>,
+    brief: &Brief<'_, J, E, G, R>,
     simulators: &mut Simulators<'_>,
-    rng: &mut N,
+    rng: &mut Lcg64Xsh32,
     crew: &mut [Hand<'_, J, T, S, P, U, E>],
 ) -> Result<(), NoMemory>
     requires simulators { simulators.old ≡ J.subject.netlist }
@@ -331,14 +337,14 @@ fn take_steps<
     let mut pace = Pace {
         end: 0,
         closed: 0,
-        size: batch_size(classes, width_of(errand.core)),
-        has_ended: is_enough(errand, lead.shared),
+        size: batch_size(classes, width_of(brief.core)),
+        has_ended: is_enough(brief, lead.shared),
     };
-    for _ in errand.rt.forever() {
+    for _ in brief.rt.forever() {
         if pace.has_ended {
             break;
         }
-        pace = take_step(errand, simulators, rng, crew, pace)?;
+        pace = take_step(brief, simulators, rng, crew, pace)?;
     }
     Ok(())
 }
@@ -380,6 +386,31 @@ fn shares_of<J: About, T: Ledger, S: Ledger, P: Ledger, U: Ledger, E: Engine>(
     Ok(shares)
 }
 
+/// The work of these workers.
+fn work_crew<
+    J: About + Send + Sync,
+    T: Ledger + Send + Sync,
+    S: Ledger + Send + Sync,
+    P: Ledger + Send + Sync,
+    U: Ledger + Send + Sync,
+    E: Engine + Sync,
+    G: Gate + Sync,
+    R: Threads + Wait + Sync,
+>(
+    brief: &Brief<'_, J, E, G, R>,
+    crew: &mut [Hand<'_, J, T, S, P, U, E>],
+    workers: u32,
+    seed: u64,
+) -> Result<(), NoMemory>
+    requires workers { 0 < workers }
+    requires crew { 0 < length crew.old }
+    ensures { length crew.new ≡ length crew.old }
+{
+    let mut rng = Lcg64Xsh32::new(seed, 0);
+    let mut simulators = Simulators::new(brief.alloc, brief.core, workers)?;
+    take_steps(brief, &mut simulators, &mut rng, crew)
+}
+
 /// The work of several workers, and their shares back.
 pub(crate) fn work_rounds<
     J: About + Send + Sync,
@@ -391,7 +422,7 @@ pub(crate) fn work_rounds<
     G: Gate + Sync,
     R: Threads + Wait + Sync,
 >(
-    errand: &Errand<'_, J, E, G, R>,
+    brief: &Brief<'_, J, E, G, R>,
     shared: &Shared<J, T, S, P, U>,
     shares: Vec<Share<T, S, P, U>>,
     workers: u32,
@@ -401,9 +432,7 @@ pub(crate) fn work_rounds<
     requires tables { All (λ (t : Tally). t.table ≡ shared.now.word.shared.table_id) shares.items }
     ensures { IfOk result (λ v. vec_len v ≡ workers) }
 {
-    let mut rng = Lcg64Xsh32::new(seed, 0);
-    let mut simulators = Simulators::new(errand.alloc, errand.core, workers)?;
-    let mut crew = crew_of(errand.alloc, shared, shares)?;
-    take_steps(errand, &mut simulators, &mut rng, &mut crew)?;
-    shares_of(errand.alloc, crew)
+    let mut crew = crew_of(brief.alloc, shared, shares)?;
+    work_crew(brief, &mut crew, workers, seed)?;
+    shares_of(brief.alloc, crew)
 }

@@ -8,31 +8,25 @@
 //! before each claim would hold the lock for a pass over all classes as often.
 ghost use Rattle.std.specs.Prelude.{◌≡◌, ◌+◌, ◌≤◌, ◌<◌, ◌⊎◌, true, false, IfOk, IfNone, IfSome, IsTrue, OnOk, vec_len};
 ghost use Rattle.std.specs.List.{All};
-ghost use Rattle.netlist.specs.Holds.{AreHoldsOf};
 ghost use Rattle.cubes.specs.Cubes.{IsCubeOf};
 ghost use Rattle.list_core.specs.States.{MaySettle};
-ghost use Rattle.list_core.specs.Subjects.{HaveLines};
 ghost use Rattle.shared_list.specs.Tally.{gave};
+ghost use Rattle.worker.specs.Working.{MaySearch};
 ghost use Rattle.worker.specs.inner.Outcomes.{IsOutcome};
 ghost use Rattle.worker.specs.inner.Stock.{IsStock};
 
 use crate::adding::add;
-use crate::errands::Errand;
+use crate::errands::{Brief, Errand, brief_of};
 use crate::outcomes::{Outcome, outcome_of};
-use crate::publishing::publish_cubes;
+use crate::publishing::{Batcher, publish_cubes};
 use cubes::Cube;
 use evidence::{Engine, Evidence};
 use list_core::{About, Claim, Goal, Settling};
-use netlist::{Core, Holds, NoMemory};
+use netlist::NoMemory;
 use outside::{Gate, Stage};
-use rand_core::Rng;
-use rand_pcg::Lcg64Xsh32;
 use shared_list::{Drawn, Share, Shared};
-use std::alloc::Global;
-use std::marker::PhantomData;
 use std::sync::Wait;
 use std::sync::ledger::Ledger;
-use word_sim::Simulator;
 
 /// How many cubes make a batch.
 pub(crate) const FULL: usize = 64;
@@ -47,57 +41,38 @@ pub(crate) fn is_enough<
     E: Engine,
     G: Gate,
     R: Wait,
->(errand: &Errand<'_, J, E, G, R>, shared: &Shared<J, T, S, P, U>) -> bool
-    ensures { IfNone errand.now (result ≡ false) }
+>(brief: &Brief<'_, J, E, G, R>, shared: &Shared<J, T, S, P, U>) -> bool
+    ensures { IfNone brief.now (result ≡ false) }
 {
-    match errand.goal {
-        Some(goal) => shared.is_enough(errand.rt, goal),
+    match brief.goal {
+        Some(goal) => shared.is_enough(brief.rt, goal),
         None => false,
     }
 }
 
 /// Searches claim after claim, until there is none, or enough is detected. Room for searches and for simulation is made once.
 pub fn work<J: About, T: Ledger, S: Ledger, P: Ledger, U: Ledger, E: Engine, G: Gate, R: Wait>(
-    rt: &R,
-    alloc: Global,
+    errand: &Errand<'_, E, G, R>,
     shared: &Shared<J, T, S, P, U>,
     share: &mut Share<T, S, P, U>,
-    core: &Core,
-    engine: &E,
-    stage: &G,
     seed: u64,
-    holds: &Holds,
     goal: Option<&Goal>,
 ) -> Result<(), NoMemory>
     requires table { share.old.table ≡ shared.now.word.shared.table_id }
-    requires core { core.now ≡ J.subject.netlist }
-    requires lines { HaveLines J.subject }
-    requires limit { 1 ≤ J.subject.limit }
-    requires held { (holds.now ≡ J.subject.holds) × AreHoldsOf core.now holds.now }
-    requires kind { E.refutes ≡ J.subject.refutes }
+    requires subject { MaySearch J.subject errand.now.core.now errand.now.holds.now E.refutes }
     ensures table { share.new.table ≡ share.old.table }
     ensures ended { OnOk result (IfNone goal.entry (share.new.ended ≡ true)) }
 {
-    let mut rng = Lcg64Xsh32::new(seed, share.worker() as u64);
-    let mut simulator = Simulator::new(alloc, core)?;
-    let errand = Errand {
-        rt,
-        alloc,
-        core,
-        engine,
-        stage,
-        holds,
-        goal,
-        about: PhantomData,
-    };
-    let room = room_of(&errand, None)?;
-    let cubes = work_turns(&errand, shared, share, room, &mut simulator, &mut rng)?;
-    publish_cubes(&errand, shared, share, &mut simulator, &mut rng, &cubes)
+    let brief = brief_of::<J, E, G, R>(errand, goal);
+    let mut batcher = Batcher::<J>::new(errand.alloc, errand.core, seed, share.worker())?;
+    let room = room_of(&brief, None)?;
+    let cubes = work_turns(&brief, shared, share, room, &mut batcher)?;
+    publish_cubes(&brief, shared, share, &mut batcher, &cubes)
 }
 
 /// The room that was kept, or a new one.
-pub(crate) fn room_of<J: About, E: Engine, G: Gate, R: Wait>(
-    errand: &Errand<'_, J, E, G, R>,
+pub(crate) fn room_of<J: About, E: Engine, G: Gate, R>(
+    brief: &Brief<'_, J, E, G, R>,
     kept: Option<E::Room>,
 ) -> Result<E::Room, NoMemory>
     requires { IfSome kept (E.serves J.subject.netlist J.subject.holds) }
@@ -105,13 +80,13 @@ pub(crate) fn room_of<J: About, E: Engine, G: Gate, R: Wait>(
 {
     match kept {
         Some(room) => Ok(room),
-        None => errand.engine.room(errand.alloc, errand.core, errand.holds),
+        None => brief.engine.room(brief.alloc, brief.core, brief.holds),
     }
 }
 
 /// Hands a claim back with its evidence, and passes the stage if the class took it.
 fn settle<J: About, T: Ledger, S: Ledger, P: Ledger, U: Ledger, E: Engine, G: Gate, R: Wait>(
-    errand: &Errand<'_, J, E, G, R>,
+    brief: &Brief<'_, J, E, G, R>,
     shared: &Shared<J, T, S, P, U>,
     share: &mut Share<T, S, P, U>,
     claim: Claim<J>,
@@ -122,14 +97,14 @@ fn settle<J: About, T: Ledger, S: Ledger, P: Ledger, U: Ledger, E: Engine, G: Ga
     requires shows { MaySettle J.subject claim.fault evidence }
     ensures { (share.new ≡ gave share.old) ⊎ (share.new ≡ share.old) }
 {
-    if let Settling::Settled = shared.settle(errand.rt, share, claim, evidence) {
-        errand.stage.at(share.worker(), settled);
+    if let Settling::Settled = shared.settle(brief.rt, share, claim, evidence) {
+        brief.stage.at(share.worker(), settled);
     }
 }
 
 /// The cube of a test; evidence settles the claim.
 fn answer<J: About, T: Ledger, S: Ledger, P: Ledger, U: Ledger, E: Engine, G: Gate, R: Wait>(
-    errand: &Errand<'_, J, E, G, R>,
+    brief: &Brief<'_, J, E, G, R>,
     shared: &Shared<J, T, S, P, U>,
     share: &mut Share<T, S, P, U>,
     claim: Claim<J>,
@@ -144,7 +119,7 @@ fn answer<J: About, T: Ledger, S: Ledger, P: Ledger, U: Ledger, E: Engine, G: Ga
     match outcome {
         Outcome::Test(cube, _) => Some(cube),
         Outcome::Settles(evidence, settled) => {
-            settle(errand, shared, share, claim, evidence, settled);
+            settle(brief, shared, share, claim, evidence, settled);
             None
         }
     }
@@ -161,7 +136,7 @@ pub(crate) fn searched<
     G: Gate,
     R: Wait,
 >(
-    errand: &Errand<'_, J, E, G, R>,
+    brief: &Brief<'_, J, E, G, R>,
     shared: &Shared<J, T, S, P, U>,
     share: &mut Share<T, S, P, U>,
     claim: Claim<J>,
@@ -174,14 +149,14 @@ pub(crate) fn searched<
     ensures cube { IfOk result (λ r. IfSome r.0 (IsCubeOf J.subject.netlist J.subject.holds)) }
     ensures room { IfOk result (λ r. E.serves J.subject.netlist J.subject.holds r.1) }
 {
-    errand.stage.at(share.worker(), Stage::Claimed);
-    let (outcome, kept) = outcome_in(errand, &claim, room)?;
-    Ok((answer(errand, shared, share, claim, outcome), kept))
+    brief.stage.at(share.worker(), Stage::Claimed);
+    let (outcome, kept) = outcome_in(brief, &claim, room)?;
+    Ok((answer(brief, shared, share, claim, outcome), kept))
 }
 
 /// What a search for a claim answers. The room comes back.
-fn outcome_in<J: About, E: Engine, G: Gate, R: Wait>(
-    errand: &Errand<'_, J, E, G, R>,
+fn outcome_in<J: About, E: Engine, G: Gate, R>(
+    brief: &Brief<'_, J, E, G, R>,
     claim: &Claim<J>,
     room: E::Room,
 ) -> Result<(Outcome, E::Room), NoMemory>
@@ -189,13 +164,13 @@ fn outcome_in<J: About, E: Engine, G: Gate, R: Wait>(
     ensures outcome { IfOk result (λ r. IsOutcome J.subject claim.now.fault r.0) }
     ensures room { IfOk result (λ r. E.serves J.subject.netlist J.subject.holds r.1) }
 {
-    let (found, kept) = errand.engine.search_in(
-        errand.alloc,
+    let (found, kept) = brief.engine.search_in(
+        brief.alloc,
         room,
-        errand.core,
+        brief.core,
         claim.fault(),
         claim.limit(),
-        errand.holds,
+        brief.holds,
     )?;
     Ok((outcome_of(found), kept))
 }
@@ -214,154 +189,100 @@ fn keep_cube<J: About>(cubes: &mut Vec<Cube>, found: Option<Cube>) -> Result<(),
 }
 
 /// Publishes the cubes once there are as many as a batch has, and then looks whether enough is detected; whether it is.
-fn publish_full<
-    J: About,
-    T: Ledger,
-    S: Ledger,
-    P: Ledger,
-    U: Ledger,
-    E: Engine,
-    G: Gate,
-    N: Rng,
-    R: Wait,
->(
-    errand: &Errand<'_, J, E, G, R>,
+fn publish_full<J: About, T: Ledger, S: Ledger, P: Ledger, U: Ledger, E: Engine, G: Gate, R: Wait>(
+    brief: &Brief<'_, J, E, G, R>,
     shared: &Shared<J, T, S, P, U>,
     share: &mut Share<T, S, P, U>,
-    simulator: &mut Simulator<'_>,
-    rng: &mut N,
+    batcher: &mut Batcher<'_, J>,
     cubes: &mut Vec<Cube>,
 ) -> Result<bool, NoMemory>
     requires table { share.old.table ≡ shared.now.word.shared.table_id }
-    requires simulator { simulator.old ≡ J.subject.netlist }
     requires wide { All (IsCubeOf J.subject.netlist J.subject.holds) cubes.old.items }
     requires few { vec_len cubes.old ≤ 64 }
     requires unspent { vec_len cubes.old ≤ share.old.unspent }
     ensures table { share.new.table ≡ share.old.table }
-    ensures simulator { simulator.new ≡ simulator.old }
     ensures stock { OnOk result (IsStock J.subject share.new cubes.new) }
-    ensures goal { IfOk result (λ b. IfNone errand.now (b ≡ false)) }
+    ensures goal { IfOk result (λ b. IfNone brief.now (b ≡ false)) }
 {
     if cubes.len() < FULL {
         return Ok(false);
     }
-    publish_cubes(errand, shared, share, simulator, rng, cubes)?;
+    publish_cubes(brief, shared, share, batcher, cubes)?;
     cubes.clear();
-    Ok(is_enough(errand, shared))
+    Ok(is_enough(brief, shared))
 }
 
 /// Searches a claim that was drawn, and publishes once there are as many cubes as a batch has: the room back, and whether to end.
-fn work_claim<
-    J: About,
-    T: Ledger,
-    S: Ledger,
-    P: Ledger,
-    U: Ledger,
-    E: Engine,
-    G: Gate,
-    N: Rng,
-    R: Wait,
->(
-    errand: &Errand<'_, J, E, G, R>,
+fn work_claim<J: About, T: Ledger, S: Ledger, P: Ledger, U: Ledger, E: Engine, G: Gate, R: Wait>(
+    brief: &Brief<'_, J, E, G, R>,
     shared: &Shared<J, T, S, P, U>,
     share: &mut Share<T, S, P, U>,
     claim: Claim<J>,
     room: E::Room,
-    simulator: &mut Simulator<'_>,
-    rng: &mut N,
+    batcher: &mut Batcher<'_, J>,
     cubes: &mut Vec<Cube>,
 ) -> Result<(E::Room, bool), NoMemory>
     requires table { share.old.table ≡ shared.now.word.shared.table_id }
     requires room { E.serves J.subject.netlist J.subject.holds room }
-    requires simulator { simulator.old ≡ J.subject.netlist }
     requires stock { IsStock J.subject share.old cubes.old }
     requires unspent { vec_len cubes.old < share.old.unspent }
     ensures table { share.new.table ≡ share.old.table }
-    ensures simulator { simulator.new ≡ simulator.old }
     ensures room { IfOk result (λ r. E.serves J.subject.netlist J.subject.holds r.0) }
     ensures stock { OnOk result (IsStock J.subject share.new cubes.new) }
-    ensures goal { IfOk result (λ r. IfNone errand.now (r.1 ≡ false)) }
+    ensures goal { IfOk result (λ r. IfNone brief.now (r.1 ≡ false)) }
 {
-    let (found, kept) = searched(errand, shared, share, claim, room)?;
+    let (found, kept) = searched(brief, shared, share, claim, room)?;
     keep_cube::<J>(cubes, found)?;
-    let has_ended = publish_full(errand, shared, share, simulator, rng, cubes)?;
+    let has_ended = publish_full(brief, shared, share, batcher, cubes)?;
     Ok((kept, has_ended))
 }
 
 /// Draws a class, and works it, if one is left and still open: the room back, and whether to end, since none is left or enough is detected.
-fn take_turn<
-    J: About,
-    T: Ledger,
-    S: Ledger,
-    P: Ledger,
-    U: Ledger,
-    E: Engine,
-    G: Gate,
-    N: Rng,
-    R: Wait,
->(
-    errand: &Errand<'_, J, E, G, R>,
+fn take_turn<J: About, T: Ledger, S: Ledger, P: Ledger, U: Ledger, E: Engine, G: Gate, R: Wait>(
+    brief: &Brief<'_, J, E, G, R>,
     shared: &Shared<J, T, S, P, U>,
     share: &mut Share<T, S, P, U>,
     room: E::Room,
-    simulator: &mut Simulator<'_>,
-    rng: &mut N,
+    batcher: &mut Batcher<'_, J>,
     cubes: &mut Vec<Cube>,
 ) -> Result<(E::Room, bool), NoMemory>
     requires table { share.old.table ≡ shared.now.word.shared.table_id }
     requires room { E.serves J.subject.netlist J.subject.holds room }
-    requires simulator { simulator.old ≡ J.subject.netlist }
     requires stock { IsStock J.subject share.old cubes.old }
     ensures table { share.new.table ≡ share.old.table }
-    ensures simulator { simulator.new ≡ simulator.old }
     ensures room { IfOk result (λ r. E.serves J.subject.netlist J.subject.holds r.0) }
     ensures stock { OnOk result (IsStock J.subject share.new cubes.new) }
-    ensures told { IfOk result (λ r. IfNone errand.now (IsTrue r.1 → share.new.ended ≡ true)) }
+    ensures told { IfOk result (λ r. IfNone brief.now (IsTrue r.1 → share.new.ended ≡ true)) }
 {
-    match shared.take(errand.rt, share) {
-        Drawn::Claim(claim) => {
-            work_claim(errand, shared, share, claim, room, simulator, rng, cubes)
-        }
+    match shared.take(brief.rt, share) {
+        Drawn::Claim(claim) => { work_claim(brief, shared, share, claim, room, batcher, cubes) }
         Drawn::Gone(_) => Ok((room, false)),
         Drawn::None => Ok((room, true)),
     }
 }
 
 /// Turn after turn, until no class is left, or enough is detected: the cubes that aren't published yet.
-fn work_turns<
-    J: About,
-    T: Ledger,
-    S: Ledger,
-    P: Ledger,
-    U: Ledger,
-    E: Engine,
-    G: Gate,
-    N: Rng,
-    R: Wait,
->(
-    errand: &Errand<'_, J, E, G, R>,
+fn work_turns<J: About, T: Ledger, S: Ledger, P: Ledger, U: Ledger, E: Engine, G: Gate, R: Wait>(
+    brief: &Brief<'_, J, E, G, R>,
     shared: &Shared<J, T, S, P, U>,
     share: &mut Share<T, S, P, U>,
     room: E::Room,
-    simulator: &mut Simulator<'_>,
-    rng: &mut N,
+    batcher: &mut Batcher<'_, J>,
 ) -> Result<Vec<Cube>, NoMemory>
     requires table { share.old.table ≡ shared.now.word.shared.table_id }
     requires room { E.serves J.subject.netlist J.subject.holds room }
-    requires simulator { simulator.old ≡ J.subject.netlist }
     ensures table { share.new.table ≡ share.old.table }
-    ensures simulator { simulator.new ≡ simulator.old }
     ensures stock { IfOk result (λ cubes. IsStock J.subject share.new cubes) }
-    ensures ended { OnOk result (IfNone errand.now (share.new.ended ≡ true)) }
+    ensures ended { OnOk result (IfNone brief.now (share.new.ended ≡ true)) }
 {
     let mut room = room;
-    let mut cubes = Vec::new(errand.alloc);
-    let mut has_ended = is_enough(errand, shared);
-    for _ in errand.rt.forever() {
+    let mut cubes = Vec::new(brief.alloc);
+    let mut has_ended = is_enough(brief, shared);
+    for _ in brief.rt.forever() {
         if has_ended {
             break;
         }
-        let (kept, ends) = take_turn(errand, shared, share, room, simulator, rng, &mut cubes)?;
+        let (kept, ends) = take_turn(brief, shared, share, room, batcher, &mut cubes)?;
         room = kept;
         has_ended = ends;
     }

@@ -10,4 +10,4 @@ returns-in-Some-clause-cubes g c =
     let cube = subst (λ (o : Option Cube). IfSome o (IsCubeOf j.netlist j.holds)) c.in-Some.is c.requires.cube in
     let found : Test = record { class = c.args.class; cube = c.in-Some.cube } in
     let kept : Type 0 = vec_len c.add.new.list ≡ vec_len c.args.tests.now in
-    more_or_same kept j.netlist j.holds c.args.tests.now.items c.add.new.list.items found c.add.result c.add.ensures.items c.add.ensures.same c.requires.cubes cube
+    more_or_same kept j c.args.tests.now.items c.add.new.list.items found c.add.result c.add.ensures.items c.add.ensures.same c.requires.cubes cube

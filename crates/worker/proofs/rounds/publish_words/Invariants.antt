@@ -12,7 +12,7 @@ invariant-loop-left g l = record {
   unspent : l.fn.share.unspent + vec_len l.left ≤ l.share.unspent + vec_len l.fn.patterns;
   fewer : vec_len l.tests ≤ vec_len l.fn.tests;
   wide : All (IsPatternOf g.J.About.subject.netlist g.J.About.subject.holds) l.left.items;
-  cubes : AreTestsOf g.J.About.subject.netlist g.J.About.subject.holds l.tests.items;
+  cubes : AreTestsOf g.J.About.subject l.tests.items;
 }
 
 abbrev pub decreases-loop-left : goal.decreases-loop-left

@@ -6,11 +6,11 @@ use Rattle.worker.proofs.working.take_turn.Goals as goal
 
 pub returns-in-Claim-clause-told : goal.returns-in-Claim-clause-told
 returns-in-Claim-clause-told g c =
-    IfOk-weaker c.work_claim.result (λ r. IfNone c.args.errand.now (r.1 ≡ false)) (λ r. IfNone c.args.errand.now (IsTrue r.1 → c.work_claim.new.share.ended ≡ true))
-    (λ r none. told_of _ c.args.errand.now r.1 none) c.work_claim.ensures.goal
+    IfOk-weaker c.work_claim.result (λ r. IfNone c.args.brief.now (r.1 ≡ false)) (λ r. IfNone c.args.brief.now (IsTrue r.1 → c.work_claim.new.share.ended ≡ true))
+    (λ r none. told_of _ c.args.brief.now r.1 none) c.work_claim.ensures.goal
 
 pub returns-in-Gone-clause-told : goal.returns-in-Gone-clause-told
-returns-in-Gone-clause-told g c = told_of _ c.args.errand.now false (whether_none c.args.errand.now refl)
+returns-in-Gone-clause-told g c = told_of _ c.args.brief.now false (whether_none c.args.brief.now refl)
 
 pub returns-in-None-clause-told : goal.returns-in-None-clause-told
-returns-in-None-clause-told g c = whether_none c.args.errand.now (λ _. ended_by_none _ c.args.share.now c.take.new.share c.in-None.ensures)
+returns-in-None-clause-told g c = whether_none c.args.brief.now (λ _. ended_by_none _ c.args.share.now c.take.new.share c.in-None.ensures)

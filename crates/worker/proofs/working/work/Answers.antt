@@ -15,4 +15,4 @@ publish_cubes-requires-clause-few g c κs within = lent_below c.in_ok-cubes.cube
 
 pub returns-clause-ended : goal.returns-clause-ended
 returns-clause-ended g c =
-    whatever_comes c.publish_cubes.result (if_none_given c.args.goal (λ is. c.publish_cubes.ensures.ended ∙ is) c.in_ok-cubes.ensures.ended)
+    whatever_comes c.publish_cubes.result (if_none_given c.args.goal (λ is. c.publish_cubes.ensures.ended ∙ is) (rw c.brief_of-brief.ensures at c.in_ok-cubes.ensures.ended))
