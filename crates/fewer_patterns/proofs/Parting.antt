@@ -46,35 +46,35 @@ module _ (n : Netlist) (holds : Holds) (patterns : List Pattern) (start : ℕ) (
   told_are = is.told ∙ ap (λ (i : ℕ). unsettled i last) size
 
   -- those in front are enough for what is left to them
-  pub front_enough : All (IsPatternOf n holds) patterns → AreEnough n holds front.left.items (length before) before front.made.last.items
+  pub front_enough : All (IsPatternOf n holds) patterns → AreEnough n holds front.left.items start before front.made.last.items
   front_enough obey =
       let detect : AllZip (LastDetected n before) (unmarked (map (is_settled (length before)) last) faults) (unsettled (length before) last) = all_left n before tail faults last told_parts in
       record {
         obey = subst (λ (ps : List Pattern). All (IsPatternOf n holds) ps) (sym is.before) (All-take (IsPatternOf n holds) start patterns obey);
-        few = omega arith;
+        few = omega (arith, size);
         detect =
             subst (λ (os : List Told). AllZip (LastDetected n before) front.left.items os) (sym told_are)
             (subst (λ (fs : List Fault). AllZip (LastDetected n before) fs (unsettled (length before) last)) (sym left_are) detect);
         told = subst (λ (os : List Told). AllTold os) (sym told_are) (all_told (length before) last);
       }
 
-  module _ (new : List Pattern) (tells : List Told) (enough : AreEnough n holds front.left.items (length before) new tells) (all : ToldPatterns)
+  module _ (new : List Pattern) (tells : List Told) (enough : AreEnough n holds front.left.items start new tells) (all : ToldPatterns)
       (join : AreJoined n start faults last new tells tail all) where
     -- others that are enough for it, with the tail, are no worse than all were
-    pub no_worse : All (IsPatternOf n holds) patterns → IsNoWorse n holds faults patterns all.patterns.items
+    no_worse : All (IsPatternOf n holds) patterns → IsNoWorse n holds faults patterns all.patterns.items
     no_worse obey =
         let behind = subst (λ (ps : List Pattern). All (IsPatternOf n holds) ps) (sym is.behind) (All-drop (IsPatternOf n holds) start patterns obey) in
         let many : length patterns ≡ length (before ++ tail) = ap (λ (ps : List Pattern). length ps) parts in
         let seen = all_seen n new front.left.items tells enough.detect enough.told in
         subst (λ (ps : List Pattern). IsNoWorse n holds faults patterns ps) (sym join.patterns) (record {
           obey = All-append (IsPatternOf n holds) new tail enough.obey behind;
-          few = omega (arith, enough.few, many, length-append before tail, length-append new tail);
+          few = omega (arith, size, enough.few, many, length-append before tail, length-append new tail);
           keeps = subst (λ (ps : List Pattern). Keeps n faults ps (new ++ tail)) (sym parts)
               (keeps n before tail new faults last told_parts (subst (λ (fs : List Fault). All (IsSeenBy n new) fs) left_are seen));
         })
 
     -- and this is where they last detect each fault
-    pub joined_told : AllZip (LastDetected n all.patterns.items) faults all.last.items
+    joined_told : AllZip (LastDetected n all.patterns.items) faults all.last.items
     joined_told =
         let less = start - length new in
         let sum : less + length new ≡ length before = omega (arith, enough.few, size) in
@@ -83,3 +83,7 @@ module _ (n : Netlist) (holds : Holds) (patterns : List Pattern) (start : ℕ) (
         let by_start = subst (λ (i : ℕ). AllZip (LastDetected n (new ++ tail)) faults (joined i less last tells join.never)) (sym size) by in
         subst (λ (ps : List Pattern). AllZip (LastDetected n ps) faults all.last.items) (sym join.patterns)
         (subst (λ (os : List Told). AllZip (LastDetected n (new ++ tail)) faults os) (sym join.lasts) by_start)
+
+    pub all_told_again : All (IsPatternOf n holds) patterns
+        → IsNoWorse n holds faults patterns all.patterns.items × AllZip (LastDetected n all.patterns.items) faults all.last.items
+    all_told_again obey = (no_worse obey, joined_told)

@@ -1,6 +1,8 @@
 //! Rows filled to patterns.
 use crate::rows::Rows;
 use cubes::Pattern;
+use flat_netlist::number_of;
+use netlist::Core;
 use rand_core::Rng;
 use std::alloc::{AllocError, Global};
 
@@ -27,12 +29,13 @@ fn bits_of<N: Rng>(
 /// A pattern for each row, in this order.
 pub(crate) fn filled<N: Rng>(
     alloc: Global,
+    core: &Core,
     rows: &Rows,
     order: &[u32],
-    inputs: u32,
-    cells: u32,
     rng: &mut N,
 ) -> Result<Vec<Pattern>, AllocError> {
+    let inputs = number_of(core.netlist().inputs().len());
+    let cells = number_of(core.netlist().cells().len());
     let mut patterns = Vec::new(alloc);
     for row in order {
         let of_inputs = bits_of(alloc, rows, *row, 0, inputs, rng)?;

@@ -8,13 +8,15 @@ ghost use Rattle.netlist.specs.Lines.{IsLineOf};
 ghost use Rattle.word_sim.specs.Hits.{LastDetected};
 ghost use Rattle.word_sim.specs.Never.{unmarked};
 ghost use Rattle.word_sim.specs.Words.{HasWidthsOf};
+ghost use Rattle.fewer_patterns.specs.inner.Aims.{IsAim};
 ghost use Rattle.fewer_patterns.specs.inner.Enough.{is_settled, is_told};
 ghost use Rattle.fewer_patterns.specs.inner.Fronts.{AreJoined, IsFront};
 ghost use Rattle.fewer_patterns.specs.inner.Joined.{first_told, joined, others_told, unsettled};
 
+use crate::aims::Aim;
 use cubes::Pattern;
 use flat_netlist::{at, fill, number_of, put};
-use netlist::{Core, Fault, NoMemory, Point};
+use netlist::{Fault, NoMemory, Point};
 use std::alloc::{AllocError, Global};
 use std::thread::Threads;
 use word_sim::unmarked;
@@ -108,13 +110,13 @@ fn tail_start(counts: &[u32]) -> usize {
 /// Where the tail begins.
 pub(crate) fn tail_of(
     alloc: Global,
-    patterns: &[Pattern],
+    patterns: usize,
     last: &[Option<(u32, Point)>],
 ) -> Result<usize, AllocError>
-    ensures { IfOk result (λ start. start ≤ length patterns.now) }
+    ensures { IfOk result (λ start. start ≤ patterns) }
 {
-    let counts = left_counts(alloc, number_of(patterns.len()), last)?;
-    Ok(tail_start(&counts).min(patterns.len()))
+    let counts = left_counts(alloc, number_of(patterns), last)?;
+    Ok(tail_start(&counts).min(patterns))
 }
 
 /// Whether a pattern from this place on is the last that detects it, or none does.
@@ -171,6 +173,21 @@ fn unsettled(
     Ok(told)
 }
 
+/// The faults that the patterns before a place have to detect.
+fn unsettled_faults(
+    alloc: Global,
+    faults: &[Fault],
+    last: &[Option<(u32, Point)>],
+    start: usize,
+) -> Result<Vec<Fault>, AllocError>
+    requires { length last.now ≡ length faults.now }
+    ensures exactly { IfOk result (λ v. v.items ≡ unmarked (map (is_settled start) last.now) faults.now) }
+    ensures lines { IfOk result (λ v. (n : Equations) → All (λ (f : FaultOf). IsLineOf n f.line) faults.now → All (λ (f : FaultOf). IsLineOf n f.line) v.items) }
+{
+    let settled = settled_marks(alloc, start, last)?;
+    unmarked(alloc, faults, &settled)
+}
+
 /// Parts patterns at a place. The faults of which one in front is the last to detect each are left to these.
 pub(crate) fn parted(
     alloc: Global,
@@ -184,8 +201,7 @@ pub(crate) fn parted(
     ensures front { IfOk result (λ front. IsFront start faults.now patterns.items last.now front) }
     ensures lines { IfOk result (λ front. (n : Equations) → All (λ (f : FaultOf). IsLineOf n f.line) faults.now → All (λ (f : FaultOf). IsLineOf n f.line) front.left.items) }
 {
-    let settled = settled_marks(alloc, start, last)?;
-    let left = unmarked(alloc, faults, &settled)?;
+    let left = unsettled_faults(alloc, faults, last, start)?;
     let last = unsettled(alloc, start, last)?;
     let mut patterns = patterns;
     let tail = patterns.split_off(start)?;
@@ -219,26 +235,29 @@ fn told_marks(alloc: Global, last: &[Option<(u32, Point)>]) -> Result<Vec<bool>,
 /// What patterns tell of the faults of which nothing was told: other bits may detect such a one.
 fn tells_of_others<R: Threads + Sync>(
     rt: &R,
-    alloc: Global,
-    core: &Core,
-    faults: &[Fault],
+    aim: &Aim<'_>,
     last: &[Option<(u32, Point)>],
     patterns: &[Pattern],
-    workers: u32,
 ) -> Result<LastTold, NoMemory>
-    requires size { length last.now ≡ length faults.now }
-    requires wide { All (HasWidthsOf core.now) patterns.now }
-    requires lines { All (λ (f : FaultOf). IsLineOf core.now f.line) faults.now }
-    requires few { length patterns.now + 64 ≤ 2 ^ 32 }
-    requires workers { 0 < workers }
-    ensures { IfOk result (λ v. AllZip (LastDetected core.now patterns.now) (unmarked (map is_told last.now) faults.now) v.items) }
+    requires aim { IsAim aim.now }
+    requires size { length last.now ≡ length aim.now.faults.now }
+    requires wide { All (HasWidthsOf aim.now.core.now) patterns.now }
+    requires few { length patterns.now ≤ aim.now.most }
+    ensures { IfOk result (λ v. AllZip (LastDetected aim.now.core.now patterns.now) (unmarked (map is_told last.now) aim.now.faults.now) v.items) }
 {
-    let marks = told_marks(alloc, last)?;
-    let others = unmarked(alloc, faults, &marks)?;
+    let marks = told_marks(aim.alloc, last)?;
+    let others = unmarked(aim.alloc, aim.faults, &marks)?;
     if others.is_empty() {
-        return Ok(Vec::new(alloc));
+        return Ok(Vec::new(aim.alloc));
     }
-    last_tells_beside(rt, alloc, core, &others, patterns, workers)
+    last_tells_beside(
+        rt,
+        aim.alloc,
+        aim.core,
+        &others,
+        patterns,
+        aim.rounds.workers,
+    )
 }
 
 /// Places of what comes next of what is told.
@@ -317,25 +336,21 @@ fn joined(
 /// Patterns in place of those in front, with the tail behind them, and what they tell of all faults, of which this was told.
 pub(crate) fn with_tail<R: Threads + Sync>(
     rt: &R,
-    alloc: Global,
-    core: &Core,
-    faults: &[Fault],
+    aim: &Aim<'_>,
     start: usize,
     last: &[Option<(u32, Point)>],
     front: Made,
     tail: Vec<Pattern>,
-    workers: u32,
 ) -> Result<ToldPatterns, NoMemory>
-    requires size { length last.now ≡ length faults.now }
-    requires wide { All (HasWidthsOf core.now) front.patterns.items }
-    requires lines { All (λ (f : FaultOf). IsLineOf core.now f.line) faults.now }
-    requires few { (length front.patterns.items ≤ start) × (start + 64 ≤ 2 ^ 32) }
-    requires workers { 0 < workers }
-    ensures { IfOk result (λ all. AreJoined core.now start faults.now last.now front.patterns.items front.last.items tail.items all) }
+    requires aim { IsAim aim.now }
+    requires size { length last.now ≡ length aim.now.faults.now }
+    requires wide { All (HasWidthsOf aim.now.core.now) front.patterns.items }
+    requires few { (length front.patterns.items ≤ start) × (start ≤ aim.now.most) }
+    ensures { IfOk result (λ all. AreJoined aim.now.core.now start aim.now.faults.now last.now front.patterns.items front.last.items tail.items all) }
 {
-    let never = tells_of_others(rt, alloc, core, faults, last, &front.patterns, workers)?;
+    let never = tells_of_others(rt, aim, last, &front.patterns)?;
     let less = start - front.patterns.len();
-    let last = joined(alloc, start, less, last, &front.last, &never)?;
+    let last = joined(aim.alloc, start, less, last, &front.last, &never)?;
     let mut patterns = front.patterns;
     let mut tail = tail;
     patterns.append(&mut tail)?;

@@ -19,6 +19,7 @@
 //! Neither: how many fewer; that workers relax patterns beside each other; time.
 #![tactic(auto)]
 
+mod aims;
 mod arranging;
 mod filling;
 mod fronts;

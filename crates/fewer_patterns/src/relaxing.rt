@@ -1,6 +1,9 @@
 //! Patterns relaxed to the bits that are needed, dealt to the workers: what one needs doesn't depend on the others that are traced with it.
 ghost use Rattle.netlist.specs.Holds.{AreHoldsOf};
+ghost use Rattle.fewer_patterns.specs.inner.Aims.{IsAim};
 
+use crate::aims::Aim;
+use crate::fronts::Made;
 use crate::rows::Rows;
 use crate::sorting::Sorted;
 use crate::tracing::Tracing;
@@ -15,23 +18,33 @@ use std::thread::Threads;
 /// What fewer faults need is traced sooner by one worker than threads are made.
 const FEWEST: usize = 512;
 
-/// Faults, and the pattern and point at which each is told last, if at all.
+/// Patterns, and faults by the places of those to which they are left.
 #[derive(Drop)]
-pub(crate) struct Told<'a> {
-    pub faults: &'a [Fault],
-    pub last: &'a [Option<(u32, Point)>],
+struct Load<'a> {
+    core: &'a Core,
+    patterns: &'a [Pattern],
+    faults: &'a [Fault],
+    by_place: &'a Sorted,
 }
 
 /// The place of the pattern to which each fault is left; NONE where none detects it.
-fn places_of(alloc: Global, told: &Told<'_>) -> Result<Vec<u32>, AllocError> {
-    let mut places = Vec::with_capacity(alloc, told.last.len())?;
-    for one in told.last {
+fn places_of(alloc: Global, last: &[Option<(u32, Point)>]) -> Result<Vec<u32>, AllocError> {
+    let mut places = Vec::with_capacity(alloc, last.len())?;
+    for one in last {
         places.push(match one {
             None => NONE,
             Some((place, _)) => *place,
         })?;
     }
     Ok(places)
+}
+
+/// The faults by these places.
+fn sorted(alloc: Global, from: &Made) -> Result<Sorted, AllocError> {
+    let places = places_of(alloc, &from.last)?;
+    let mut by_place = Sorted::new(alloc);
+    by_place.sort(&places, number_of(from.patterns.len()))?;
+    Ok(by_place)
 }
 
 /// Of the faults that are left to each pattern, which are looked at: those from the one up to the other.
@@ -45,26 +58,24 @@ struct Stage {
 /// nearly all of its bits already it is taken whole, and no more faults are looked at.
 fn need_some(
     tracing: &mut Tracing<'_>,
-    core: &Core,
-    told: &Told<'_>,
-    by_place: &Sorted,
+    load: &Load<'_>,
     place: u32,
     lane: u32,
     stage: Stage,
 ) -> Result<(), AllocError> {
-    let (start, end) = by_place.of_key(place);
+    let (start, end) = load.by_place.of_key(place);
     let first = start.saturating_add(stage.from);
     if first >= end {
         return Ok(());
     }
     tracing.worlds.look_at(lane);
-    if stage.from > 0 && tracing.is_nearly_whole(core) {
-        tracing.take_whole(core);
+    if stage.from > 0 && tracing.is_nearly_whole(load.core) {
+        tracing.take_whole(load.core);
         return Ok(());
     }
     for slot in first..end.min(start.saturating_add(stage.to)) {
-        if let Some(fault) = told.faults.get(by_place.number(slot) as usize) {
-            tracing.need(core, fault.line)?;
+        if let Some(fault) = load.faults.get(load.by_place.number(slot) as usize) {
+            tracing.need(load.core, fault.line)?;
         }
     }
     Ok(())
@@ -73,22 +84,12 @@ fn need_some(
 /// The same of the patterns of these lanes; and what that rests on.
 fn need_stage(
     tracing: &mut Tracing<'_>,
-    core: &Core,
-    told: &Told<'_>,
-    by_place: &Sorted,
+    load: &Load<'_>,
     lanes: Lanes,
     stage: Stage,
 ) -> Result<(), AllocError> {
     for lane in 0..lanes.count {
-        need_some(
-            tracing,
-            core,
-            told,
-            by_place,
-            lanes.place(lane),
-            lane,
-            stage,
-        )?;
+        need_some(tracing, load, lanes.place(lane), lane, stage)?;
     }
     tracing.trace();
     Ok(())
@@ -105,22 +106,15 @@ fn most_left(by_place: &Sorted, lanes: Lanes) -> u32 {
 }
 
 /// What the faults need that are left to the patterns of these lanes: a few at first, and four times as many each time.
-fn need_lanes(
-    tracing: &mut Tracing<'_>,
-    core: &Core,
-    told: &Told<'_>,
-    by_place: &Sorted,
-    patterns: &[Pattern],
-    lanes: Lanes,
-) -> Result<(), AllocError> {
-    tracing.begin(core, patterns, lanes)?;
-    let most = most_left(by_place, lanes);
+fn need_lanes(tracing: &mut Tracing<'_>, load: &Load<'_>, lanes: Lanes) -> Result<(), AllocError> {
+    tracing.begin(load.core, load.patterns, lanes)?;
+    let most = most_left(load.by_place, lanes);
     let mut stage = Stage { from: 0, to: 8 };
     for _stage in 0..16 {
         if stage.from >= most {
             break;
         }
-        need_stage(tracing, core, told, by_place, lanes, stage)?;
+        need_stage(tracing, load, lanes, stage)?;
         stage = Stage {
             from: stage.to,
             to: stage.to.saturating_mul(4),
@@ -176,14 +170,13 @@ fn push_needed(rows: &mut Rows, tracing: &Tracing<'_>, core: &Core) -> Result<()
 fn push_lanes(
     rows: &mut Rows,
     tracing: &mut Tracing<'_>,
-    core: &Core,
-    by_place: &Sorted,
+    load: &Load<'_>,
     lanes: Lanes,
 ) -> Result<(), AllocError> {
     for lane in 0..lanes.count {
-        if by_place.has_key(lanes.place(lane)) {
+        if load.by_place.has_key(lanes.place(lane)) {
             tracing.worlds.look_at(lane);
-            push_needed(rows, tracing, core)?;
+            push_needed(rows, tracing, load.core)?;
         }
     }
     Ok(())
@@ -233,59 +226,41 @@ fn lanes_of(patterns: usize, number: u32, step: u32, word: u32) -> Lanes {
 
 /// Rows for the patterns of a part.
 fn relax_lanes(
-    core: &Core,
-    told: &Told<'_>,
-    by_place: &Sorted,
-    patterns: &[Pattern],
+    load: &Load<'_>,
     number: u32,
     step: u32,
     part: &mut Part<'_>,
 ) -> Result<(), AllocError> {
-    for word in 0..number_of(patterns.len()) {
-        let lanes = lanes_of(patterns.len(), number, step, word);
+    let count = load.patterns.len();
+    for word in 0..number_of(count) {
+        let lanes = lanes_of(count, number, step, word);
         if lanes.count == 0 {
             break;
         }
-        need_lanes(&mut part.tracing, core, told, by_place, patterns, lanes)?;
-        push_lanes(&mut part.rows, &mut part.tracing, core, by_place, lanes)?;
+        need_lanes(&mut part.tracing, load, lanes)?;
+        push_lanes(&mut part.rows, &mut part.tracing, load, lanes)?;
     }
     Ok(())
 }
 
 /// The part of so many with this number: every so-many-th pattern is its own.
-fn relax_part(
-    core: &Core,
-    told: &Told<'_>,
-    by_place: &Sorted,
-    patterns: &[Pattern],
-    number: u32,
-    step: u32,
-    part: &mut Part<'_>,
-) {
+fn relax_part(load: &Load<'_>, number: u32, step: u32, part: &mut Part<'_>) {
     part.rows.clear();
-    part.is_refused = relax_lanes(core, told, by_place, patterns, number, step, part).is_err();
+    part.is_refused = relax_lanes(load, number, step, part).is_err();
 }
 
 /// Each part does its own, beside the others. Of few faults the first does all.
-fn relax_parts<R: Threads + Sync>(
-    rt: &R,
-    core: &Core,
-    told: &Told<'_>,
-    by_place: &Sorted,
-    patterns: &[Pattern],
-    parts: &mut [Part<'_>],
-) -> u32 {
-    if parts.len() < 2 || told.faults.len() < FEWEST {
+fn relax_parts<R: Threads + Sync>(rt: &R, load: &Load<'_>, parts: &mut [Part<'_>]) -> u32 {
+    if parts.len() < 2 || load.faults.len() < FEWEST {
         if let Some(part) = parts.first_mut() {
-            relax_part(core, told, by_place, patterns, 0, 1, part);
+            relax_part(load, 0, 1, part);
         }
         return 1;
     }
     let workers = parts.len();
     let step = number_of(workers);
     let work = move |number: usize, part: &mut Part<'_>| {
-        let number = number_of(number);
-        relax_part(core, told, by_place, patterns, number, step, part)
+        relax_part(load, number_of(number), step, part)
     };
     thread::for_each_mut(rt, parts, workers, &work);
     step
@@ -311,18 +286,16 @@ fn take_row(
 
 /// The rows of all parts, in the order of the patterns.
 fn gathered(
-    alloc: Global,
-    by_place: &Sorted,
-    patterns: u32,
-    places: u32,
+    aim: &Aim<'_>,
+    load: &Load<'_>,
     parts: &[Part<'_>],
     step: u32,
 ) -> Result<Rows, AllocError> {
-    let mut nexts = Vec::new(alloc);
+    let mut nexts = Vec::new(aim.alloc);
     fill(&mut nexts, step, 0)?;
-    let mut rows = Rows::new(alloc, places);
-    for place in 0..patterns {
-        if by_place.has_key(place) {
+    let mut rows = Rows::new(aim.alloc, aim.places());
+    for place in 0..number_of(load.patterns.len()) {
+        if load.by_place.has_key(place) {
             take_row(&mut rows, parts, &mut nexts, place % step.max(1))?;
         }
     }
@@ -334,36 +307,39 @@ fn is_refused(parts: &[Part<'_>]) -> bool {
     parts.iter().any(|part| part.is_refused)
 }
 
-/// A row for each pattern to which a fault is left: the bits that such faults need, and those that are held.
-pub(crate) fn relaxed<R: Threads + Sync>(
+/// The bits that are needed, gathered in this room.
+fn relaxed_in<R: Threads + Sync>(
     rt: &R,
-    alloc: Global,
-    core: &Core,
-    holds: &Holds,
+    aim: &Aim<'_>,
+    load: &Load<'_>,
     parts: &mut [Part<'_>],
-    told: &Told<'_>,
-    patterns: &[Pattern],
-    places: u32,
-) -> Result<Rows, NoMemory>
-    requires { AreHoldsOf core.now holds.now }
-{
-    let left_to = places_of(alloc, told)?;
-    let mut by_place = Sorted::new(alloc);
-    by_place.sort(&left_to, number_of(patterns.len()))?;
-    let step = relax_parts(rt, core, told, &by_place, patterns, parts);
+) -> Result<Rows, NoMemory> {
+    let step = relax_parts(rt, load, parts);
     if is_refused(parts) {
         return Err(NoMemory);
     }
-    let mut rows = gathered(
-        alloc,
-        &by_place,
-        number_of(patterns.len()),
-        places,
-        parts,
-        step,
-    )?;
+    Ok(gathered(aim, load, parts, step)?)
+}
+
+/// A row for each pattern to which a fault is left: the bits that such faults need, and those that are held.
+pub(crate) fn relaxed<R: Threads + Sync>(
+    rt: &R,
+    aim: &Aim<'_>,
+    parts: &mut [Part<'_>],
+    from: &Made,
+) -> Result<Rows, NoMemory>
+    requires { IsAim aim.now }
+{
+    let by_place = sorted(aim.alloc, from)?;
+    let load = Load {
+        core: aim.core,
+        patterns: &from.patterns,
+        faults: aim.faults,
+        by_place: &by_place,
+    };
+    let mut rows = relaxed_in(rt, aim, &load, parts)?;
     for row in 0..rows.count() {
-        put_held(&mut rows, row, core, holds);
+        put_held(&mut rows, row, aim.core, aim.holds);
     }
     Ok(rows)
 }

@@ -1,21 +1,22 @@
 //! Rounds of relaxing and merging, each verified.
-ghost use Rattle.std.specs.Prelude.{◌≡◌, ◌+◌, ◌<◌, ◌≤◌, ◌^◌, true, List, ℕ, IfOk, IfSome, length};
+ghost use Rattle.std.specs.Prelude.{◌≡◌, ◌+◌, ◌<◌, ◌≤◌, ◌^◌, true, IfOk, IfSome, length};
 ghost use Rattle.std.specs.List.{All, AllZip};
 ghost use Rattle.statement.specs.declared.lines.Fault.{Fault as FaultOf};
-ghost use Rattle.statement.specs.Netlists.{Netlist as Equations};
-ghost use Rattle.statement.specs.Patterns.{Holds as Held, Pattern as Bits};
 ghost use Rattle.netlist.specs.Holds.{AreHoldsOf};
 ghost use Rattle.netlist.specs.Lines.{IsLineOf};
 ghost use Rattle.cubes.specs.Cubes.{IsPatternOf};
 ghost use Rattle.word_sim.specs.Hits.{LastDetected};
 ghost use Rattle.fewer_patterns.specs.Fewer.{IsNoWorse};
-ghost use Rattle.fewer_patterns.specs.inner.Enough.{AllTold, AreEnough};
+ghost use Rattle.fewer_patterns.specs.declared.aims.Aim.{Aim as AimOf};
+ghost use Rattle.fewer_patterns.specs.inner.Aims.{IsAim, IsEnough};
+ghost use Rattle.fewer_patterns.specs.inner.Enough.{AllTold};
 
+use crate::aims::Aim;
 use crate::arranging::order_of;
 use crate::filling::filled;
 use crate::fronts::{Front, Made, ToldPatterns, is_told, needed, parted, tail_of, with_tail};
 use crate::merging::merged;
-use crate::relaxing::{Part, Told, parts_of, relaxed, sharing};
+use crate::relaxing::{Part, parts_of, relaxed, sharing};
 use crate::rows::Rows;
 use cubes::Pattern;
 use flat_netlist::{Whole, number_of};
@@ -60,31 +61,24 @@ fn are_told(last: &[Option<(u32, Point)>]) -> bool
     true
 }
 
-/// The patterns, where a simulation says that they are at most so many and detect each of these faults.
+/// The patterns, where a simulation says that there are no more of them than there may be and that they detect each fault.
 fn verified<R: Threads + Sync>(
     rt: &R,
-    alloc: Global,
-    core: &Core,
-    holds: &Holds,
-    faults: &[Fault],
-    most: usize,
+    aim: &Aim<'_>,
     tried: Vec<Pattern>,
-    workers: u32,
 ) -> Result<Option<Made>, NoMemory>
-    requires held { AreHoldsOf core.now holds.now }
-    requires lines { All (λ (f : FaultOf). IsLineOf core.now f.line) faults.now }
-    requires few { most + 64 ≤ 2 ^ 32 }
-    requires workers { 0 < workers }
-    ensures { IfOk result (λ found. IfSome found (λ made. AreEnough core.now holds.now faults.now most made.patterns.items made.last.items)) }
+    requires { IsAim aim.now }
+    ensures { IfOk result (λ found. IfSome found (IsEnough aim.now)) }
 {
-    if tried.len() > most || !are_patterns(core.netlist(), holds, &tried) {
+    if tried.len() > aim.most || !are_patterns(aim.core.netlist(), aim.holds, &tried) {
         return Ok(None);
     }
-    let last = last_tells_beside(rt, alloc, core, faults, &tried, workers)?;
+    let workers = aim.rounds.workers;
+    let last = last_tells_beside(rt, aim.alloc, aim.core, aim.faults, &tried, workers)?;
     if !are_told(&last) {
         return Ok(None);
     }
-    let needed = needed(alloc, number_of(tried.len()), &last)?;
+    let needed = needed(aim.alloc, number_of(tried.len()), &last)?;
     Ok(Some(Made {
         patterns: tried,
         last,
@@ -112,9 +106,7 @@ impl Course {
 
 /// After a round that found these: they are the best where fewer of them are needed.
 fn after(course: Course, found: Option<Made>, is_over: bool) -> Course
-    ensures { (n : Equations) (holds : Held) (faults : List FaultOf) (most : ℕ) → AreEnough n holds faults most course.best.patterns.items course.best.last.items
-        → IfSome found (λ made. AreEnough n holds faults most made.patterns.items made.last.items)
-        → AreEnough n holds faults most result.best.patterns.items result.best.last.items }
+    ensures { (aim : AimOf) → IsEnough aim course.best → IfSome found (IsEnough aim) → IsEnough aim result.best }
 {
     let best = course.best;
     match found {
@@ -136,124 +128,136 @@ fn after(course: Course, found: Option<Made>, is_over: bool) -> Course
     }
 }
 
-/// How many bits a pattern has.
-fn places_of(core: &Core) -> u32 {
-    let netlist = core.netlist();
-    number_of(netlist.inputs().len()).wrapping_add(number_of(netlist.cells().len()))
+/// Rows merged, and filled in an order of the round.
+fn refilled<N: Rng>(
+    aim: &Aim<'_>,
+    rows: &Rows,
+    round: u32,
+    rng: &mut N,
+) -> Result<Vec<Pattern>, AllocError> {
+    let rows = merged(aim.alloc, rows, aim.places())?;
+    let order = order_of(aim.alloc, rows.count(), round, rng)?;
+    filled(aim.alloc, aim.core, &rows, &order, rng)
 }
 
-/// The patterns relaxed, merged and filled, in an order of the round; and whether that left them dense.
+/// The patterns relaxed, merged and filled; and whether the first left them dense.
 fn tried_from<N: Rng, R: Threads + Sync>(
     rt: &R,
-    alloc: Global,
-    core: &Core,
-    holds: &Holds,
-    faults: &[Fault],
+    aim: &Aim<'_>,
     parts: &mut [Part<'_>],
     from: &Made,
     round: u32,
     rng: &mut N,
 ) -> Result<(Vec<Pattern>, bool), NoMemory>
-    requires { AreHoldsOf core.now holds.now }
+    requires { IsAim aim.now }
 {
-    let told = Told {
-        faults,
-        last: &from.last,
-    };
-    let inputs = number_of(core.netlist().inputs().len());
-    let cells = number_of(core.netlist().cells().len());
-    let places = places_of(core);
-    let rows = relaxed(rt, alloc, core, holds, parts, &told, &from.patterns, places)?;
-    let is_dense = is_dense(&rows, places);
-    let rows = merged(alloc, &rows, places)?;
-    let order = order_of(alloc, rows.count(), round, rng)?;
-    let tried = filled(alloc, &rows, &order, inputs, cells, rng)?;
+    let rows = relaxed(rt, aim, parts, from)?;
+    let is_dense = is_dense(&rows, aim.places());
+    let tried = refilled(aim, &rows, round, rng)?;
     Ok((tried, is_dense))
 }
 
-/// The best patterns after so many rounds.
-fn improved<R: Threads + Sync>(
+/// One round more.
+fn next_round<N: Rng, R: Threads + Sync>(
     rt: &R,
-    alloc: Global,
-    core: &Core,
-    holds: &Holds,
-    faults: &[Fault],
-    first: Made,
-    rounds: Rounds,
-) -> Result<Made, NoMemory>
-    requires held { AreHoldsOf core.now holds.now }
-    requires lines { All (λ (f : FaultOf). IsLineOf core.now f.line) faults.now }
-    requires few { length first.patterns.items + 64 ≤ 2 ^ 32 }
-    requires workers { 0 < rounds.workers }
-    requires enough { AreEnough core.now holds.now faults.now (length first.patterns.items) first.patterns.items first.last.items }
-    ensures { IfOk result (λ made. AreEnough core.now holds.now faults.now (length first.patterns.items) made.patterns.items made.last.items) }
+    aim: &Aim<'_>,
+    parts: &mut [Part<'_>],
+    course: Course,
+    round: u32,
+    rng: &mut N,
+) -> Result<Course, NoMemory>
+    requires aim { IsAim aim.now }
+    requires enough { IsEnough aim.now course.best }
+    ensures { IfOk result (λ next. IsEnough aim.now next.best) }
 {
-    let most = first.patterns.len();
-    let mut whole = Whole::new(alloc);
-    whole.begin(alloc, core)?;
-    let workers = sharing(rounds.workers, most);
-    let mut parts = parts_of(alloc, &whole, places_of(core), workers)?;
-    let mut rng = Lcg64Xsh32::new(rounds.seed, STREAM);
+    let (tried, is_dense) = tried_from(rt, aim, parts, course.from(), round, rng)?;
+    let found = verified(rt, aim, tried)?;
+    Ok(after(course, found, is_dense))
+}
+
+/// The best patterns after all rounds, in this room.
+fn improved_in<R: Threads + Sync>(
+    rt: &R,
+    aim: &Aim<'_>,
+    parts: &mut [Part<'_>],
+    first: Made,
+) -> Result<Made, NoMemory>
+    requires aim { IsAim aim.now }
+    requires enough { IsEnough aim.now first }
+    ensures { IfOk result (IsEnough aim.now) }
+{
+    let mut rng = Lcg64Xsh32::new(aim.rounds.seed, STREAM);
     let mut course = Course {
         best: first,
         other: None,
         is_over: false,
     };
-    for round in 0..rounds.count {
+    for round in 0..aim.rounds.count {
         if course.is_over {
             break;
         }
-        let (tried, is_dense) = tried_from(
-            rt,
-            alloc,
-            core,
-            holds,
-            faults,
-            &mut parts,
-            course.from(),
-            round,
-            &mut rng,
-        )?;
-        let found = verified(rt, alloc, core, holds, faults, most, tried, rounds.workers)?;
-        course = after(course, found, is_dense);
+        course = next_round(rt, aim, parts, course, round, &mut rng)?;
     }
     Ok(course.best)
 }
 
-/// Patterns of which as much is told, and no more of them: the best in front after so many rounds, and the tail.
+/// The same over a netlist in flat arrays.
+fn improved_over<R: Threads + Sync>(
+    rt: &R,
+    aim: &Aim<'_>,
+    whole: &Whole,
+    first: Made,
+) -> Result<Made, NoMemory>
+    requires aim { IsAim aim.now }
+    requires enough { IsEnough aim.now first }
+    ensures { IfOk result (IsEnough aim.now) }
+{
+    let workers = sharing(aim.rounds.workers, aim.most);
+    let mut parts = parts_of(aim.alloc, whole, aim.places(), workers)?;
+    let best = improved_in(rt, aim, &mut parts, first);
+    drop(parts);
+    best
+}
+
+/// The best patterns after all rounds.
+fn improved<R: Threads + Sync>(rt: &R, aim: &Aim<'_>, first: Made) -> Result<Made, NoMemory>
+    requires aim { IsAim aim.now }
+    requires enough { IsEnough aim.now first }
+    ensures { IfOk result (IsEnough aim.now) }
+{
+    let mut whole = Whole::new(aim.alloc);
+    whole.begin(aim.alloc, aim.core)?;
+    let best = improved_over(rt, aim, &whole, first);
+    drop(whole);
+    best
+}
+
+/// Patterns of which as much is told, and no more of them: the best in front after all rounds, and the tail.
 fn fewer_told<R: Threads + Sync>(
     rt: &R,
-    alloc: Global,
-    core: &Core,
-    holds: &Holds,
-    faults: &[Fault],
-    given: ToldPatterns,
-    rounds: Rounds,
+    aim: &Aim<'_>,
+    patterns: Vec<Pattern>,
+    last: &[Option<(u32, Point)>],
 ) -> Result<ToldPatterns, NoMemory>
-    requires held { AreHoldsOf core.now holds.now }
-    requires lines { All (λ (f : FaultOf). IsLineOf core.now f.line) faults.now }
-    requires obey { All (IsPatternOf core.now holds.now) given.patterns.items }
-    requires told { AllZip (LastDetected core.now given.patterns.items) faults.now given.last.items }
-    requires few { length given.patterns.items + 64 ≤ 2 ^ 32 }
-    requires workers { 0 < rounds.workers }
-    ensures fewer { IfOk result (λ all. IsNoWorse core.now holds.now faults.now given.patterns.items all.patterns.items) }
-    ensures told { IfOk result (λ all. AllZip (LastDetected core.now all.patterns.items) faults.now all.last.items) }
+    requires aim { IsAim aim.now }
+    requires most { length patterns.items ≤ aim.now.most }
+    requires obey { All (IsPatternOf aim.now.core.now aim.now.holds.now) patterns.items }
+    requires told { AllZip (LastDetected aim.now.core.now patterns.items) aim.now.faults.now last.now }
+    ensures { IfOk result (λ all. IsNoWorse aim.now.core.now aim.now.holds.now aim.now.faults.now patterns.items all.patterns.items
+        × AllZip (LastDetected aim.now.core.now all.patterns.items) aim.now.faults.now all.last.items) }
 {
-    let ToldPatterns { patterns, last } = given;
-    let start = tail_of(alloc, &patterns, &last)?;
-    let Front { left, made, tail } = parted(alloc, faults, patterns, &last, start)?;
-    let best = improved(rt, alloc, core, holds, &left, made, rounds)?;
-    with_tail(
-        rt,
-        alloc,
-        core,
-        faults,
-        start,
-        &last,
-        best,
-        tail,
-        rounds.workers,
-    )
+    let start = tail_of(aim.alloc, patterns.len(), last)?;
+    let Front { left, made, tail } = parted(aim, patterns, last, start)?;
+    let narrow = Aim {
+        alloc: aim.alloc,
+        core: aim.core,
+        holds: aim.holds,
+        faults: &left,
+        most: start,
+        rounds: aim.rounds,
+    };
+    let best = improved(rt, &narrow, made)?;
+    with_tail(rt, aim, start, last, best, tail)
 }
 
 /// Patterns that detect each of these faults that the given ones detect, and that are no more: after so many rounds. Those to which most faults are
@@ -277,9 +281,17 @@ pub fn fewer<R: Threads + Sync>(
     ensures told { IfOk result (λ all. AllZip (LastDetected core.now all.patterns.items) faults.now all.last.items) }
 {
     let last = last_tells_beside(rt, alloc, core, faults, &patterns, rounds.workers)?;
-    let given = ToldPatterns { patterns, last };
     if rounds.count == 0 {
-        return Ok(given);
+        return Ok(ToldPatterns { patterns, last });
     }
-    fewer_told(rt, alloc, core, holds, faults, given, rounds)
+    let aim = Aim {
+        alloc,
+        core,
+        holds,
+        faults,
+        most: patterns.len(),
+        rounds,
+    };
+    let told = fewer_told(rt, &aim, patterns, &last)?;
+    Ok(told)
 }

@@ -13,5 +13,6 @@ unmarked-requires g c =
 
 pub last_tells_beside-requires-clause-lines : goal.last_tells_beside-requires-clause-lines
 last_tells_beside-requires-clause-lines g c κs lives =
-    let P : List Fault → Type 0 = λ fs. All (λ (f : Fault). IsLineOf c.args.core.now f.line) fs in
-    subst P (sym c.deref-2.ensures.value) (c.in_ok-others.ensures.lines c.args.core.now c.requires.lines)
+    let a = c.args.aim.now in
+    let P : List Fault → Type 0 = λ fs. All (λ (f : Fault). IsLineOf a.core.now f.line) fs in
+    subst P (sym c.deref-2.ensures.value) (c.in_ok-others.ensures.lines a.core.now c.requires.aim.lines)

@@ -10,12 +10,11 @@ use Rattle.fewer_patterns.proofs.rounds.verified.Goals as goal
 
 pub returns : goal.returns
 returns g c =
-    let n = c.args.core.now in
-    let faults = c.args.faults.now in
-    let obey = subst (λ (m : Netlist). All (IsPatternOf m c.args.holds.now) c.deref.result.now) c.netlist.ensures c.if-not-are_patterns.ensures in
+    let a = c.args.aim.now in
+    let obey = subst (λ (m : Netlist). All (IsPatternOf m a.holds.now) c.deref.result.now) c.netlist.ensures c.if-not-are_patterns.ensures in
     record {
-      obey = subst (λ (ps : List Pattern). All (IsPatternOf n c.args.holds.now) ps) c.deref.ensures.value obey;
+      obey = subst (λ (ps : List Pattern). All (IsPatternOf a.core.now a.holds.now) ps) c.deref.ensures.value obey;
       few = omega (arith, c.if-len-most.false);
-      detect = subst (λ (ps : List Pattern). AllZip (LastDetected n ps) faults c.in_ok-last.last.items) c.deref-2.ensures.value c.in_ok-last.ensures;
+      detect = subst (λ (ps : List Pattern). AllZip (LastDetected a.core.now ps) a.faults.now c.in_ok-last.last.items) c.deref-2.ensures.value c.in_ok-last.ensures;
       told = subst (λ (ls : List (Option (ℕ × Point))). AllTold ls) c.deref-3.ensures.value (c.are_told.ensures c.if-not-are_told.false);
     }
