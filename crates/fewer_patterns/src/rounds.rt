@@ -247,7 +247,7 @@ fn fewer_told<R: Threads + Sync>(
         × AllZip (LastDetected aim.now.core.now all.patterns.items) aim.now.faults.now all.last.items) }
 {
     let start = tail_of(aim.alloc, patterns.len(), last)?;
-    let Front { left, made, tail } = parted(aim, patterns, last, start)?;
+    let Front { left, made, tail } = parted(aim.alloc, aim.faults, patterns, last, start)?;
     let narrow = Aim {
         alloc: aim.alloc,
         core: aim.core,
