@@ -2,7 +2,7 @@
 ghost use Rattle.std.specs.Prelude.{◌<◌, length, IfSome};
 ghost use Rattle.statement.specs.Netlists.{signals};
 
-use case_text::push_number;
+use case_text::Said;
 use fault_universe::signal_count;
 use netlist::{Fault, Line, Netlist, SignalId};
 use std::alloc::AllocError;
@@ -37,27 +37,27 @@ pub fn push_names(to: &mut Vec<u8>, netlist: &Netlist, ids: &[SignalId]) -> Resu
 }
 
 /// Adds a line as a fault's text has it.
-pub fn push_line_text(to: &mut Vec<u8>, netlist: &Netlist, line: &Line) -> Result<(), AllocError> {
+pub fn push_line_text(to: &mut Said, netlist: &Netlist, line: &Line) {
     match line {
         Line::Stem(x) => {
-            to.extend_from_slice(b"stem ")?;
-            to.extend_from_slice(name_of(netlist, *x))
+            to.push("stem ");
+            to.push_bytes(name_of(netlist, *x));
         }
         Line::Pin(z, k) => {
-            to.extend_from_slice(b"pin ")?;
-            to.extend_from_slice(name_of(netlist, *z))?;
-            to.push(b' ')?;
-            push_number(to, *k)
+            to.push("pin ");
+            to.push_bytes(name_of(netlist, *z));
+            to.push(" ");
+            to.push_number(u64::from(*k));
         }
         Line::Out(x) => {
-            to.extend_from_slice(b"out ")?;
-            to.extend_from_slice(name_of(netlist, *x))
+            to.push("out ");
+            to.push_bytes(name_of(netlist, *x));
         }
     }
 }
 
 /// Adds a fault as its text is.
-pub fn push_fault(to: &mut Vec<u8>, netlist: &Netlist, fault: &Fault) -> Result<(), AllocError> {
-    push_line_text(to, netlist, &fault.line)?;
-    to.extend_from_slice(if fault.value { b"/1" } else { b"/0" })
+pub fn push_fault(to: &mut Said, netlist: &Netlist, fault: &Fault) {
+    push_line_text(to, netlist, &fault.line);
+    to.push(if fault.value { "/1" } else { "/0" });
 }

@@ -1,5 +1,6 @@
 //! Texts in which a part is another.
 use crate::lines::push_line;
+use crate::said::Said;
 use crate::words::cut_at;
 use std::alloc::{AllocError, Global};
 
@@ -26,11 +27,11 @@ pub fn changed(alloc: Global, text: &[u8], change: &str) -> Result<Vec<u8>, Allo
     let (old, new) = cut_at(change, "|");
     let old = part_of(alloc, old)?;
     let new = part_of(alloc, new)?;
-    let mut made = Vec::new(alloc);
+    let mut made = Said::new(alloc);
     if let Some((front, behind)) = split_at_part(text, old.as_slice()) {
-        made.extend_from_slice(front)?;
-        made.extend_from_slice(new.as_slice())?;
-        made.extend_from_slice(behind)?;
+        made.push_bytes(front);
+        made.push_bytes(new.as_slice());
+        made.push_bytes(behind);
     }
-    Ok(made)
+    made.end()
 }

@@ -1,7 +1,7 @@
 //! A text as lines that a person can read. A line stands behind a `|`; a byte that isn't printable is `\x` with two digits, a `\` is `\\`, and
 //! a `\` at the end of a line says that no line feed follows.
-use crate::words::Pushed;
-use itoa::Buffer;
+use crate::said::Said;
+use crate::words::{Pushed, push_number};
 
 /// The value of a hexadecimal digit; 0 for another byte.
 fn digit(byte: u8) -> u8 {
@@ -24,22 +24,15 @@ fn digit_of(value: u8) -> u8 {
 pub fn push_line(text: &mut Vec<u8>, line: &str) -> Pushed {
     let mut rest = line.as_bytes();
     for _ in 0..line.len() {
-        rest = match rest {
+        let (byte, more) = match rest {
             [] => break,
             [b'\\'] => return Ok(()),
-            [b'\\', b'\\', more @ ..] => {
-                text.push(b'\\')?;
-                more
-            }
-            [b'\\', b'x', high, low, more @ ..] => {
-                text.push(digit(*high) << 4 | digit(*low))?;
-                more
-            }
-            [byte, more @ ..] => {
-                text.push(*byte)?;
-                more
-            }
+            [b'\\', b'\\', more @ ..] => (b'\\', more),
+            [b'\\', b'x', high, low, more @ ..] => (digit(*high) << 4 | digit(*low), more),
+            [byte, more @ ..] => (*byte, more),
         };
+        text.push(byte)?;
+        rest = more;
     }
     text.push(b'\n')?;
     Ok(())
@@ -53,17 +46,20 @@ pub fn push_repeated(text: &mut Vec<u8>, count: u32, bytes: &str) -> Pushed {
     Ok(())
 }
 
+/// Adds a byte of a form for a number.
+fn push_formed(text: &mut Vec<u8>, number: u32, byte: u8) -> Pushed {
+    match byte {
+        b'%' => push_number(text, number),
+        b'@' => push_number(text, number.saturating_sub(1)),
+        _ => text.extend_from_slice(&[byte]),
+    }
+}
+
 /// Adds a line for each number. A `%` of the form stands for the number, an `@` for the number before it.
 pub fn push_numbered(text: &mut Vec<u8>, from: u32, to: u32, form: &str) -> Pushed {
     for number in from..to {
         for byte in form.bytes() {
-            match byte {
-                b'%' => text.extend_from_slice(Buffer::new().format(number).as_bytes())?,
-                b'@' => text.extend_from_slice(
-                    Buffer::new().format(number.saturating_sub(1)).as_bytes(),
-                )?,
-                other => text.push(other)?,
-            }
+            push_formed(text, number, byte)?;
         }
         text.push(b'\n')?;
     }
@@ -71,33 +67,27 @@ pub fn push_numbered(text: &mut Vec<u8>, from: u32, to: u32, form: &str) -> Push
 }
 
 /// Adds a byte of a text as it is shown.
-fn show_byte(to: &mut Vec<u8>, byte: u8) -> Pushed {
+fn show_byte(to: &mut Said, byte: u8) {
     match byte {
-        b'\\' => to.extend_from_slice(b"\\\\")?,
-        b' '..=b'~' => to.push(byte)?,
-        _ => to.extend_from_slice(&[b'\\', b'x', digit_of(byte >> 4), digit_of(byte & 15)])?,
+        b'\\' => to.push("\\\\"),
+        b'\n' | b' '..=b'~' => to.push_bytes(&[byte]),
+        _ => to.push_bytes(&[b'\\', b'x', digit_of(byte >> 4), digit_of(byte & 15)]),
     }
-    Ok(())
 }
 
 /// Adds a text as it is shown.
-pub fn show(to: &mut Vec<u8>, text: &[u8]) -> Pushed {
+pub fn show(to: &mut Said, text: &[u8]) {
     let mut is_inside = false;
     for byte in text {
         if !is_inside {
-            to.push(b'|')?;
+            to.push("|");
         }
         is_inside = *byte != b'\n';
-        if is_inside {
-            show_byte(to, *byte)?;
-        } else {
-            to.push(b'\n')?;
-        }
+        show_byte(to, *byte);
     }
     if is_inside {
-        to.extend_from_slice(b"\\\n")?;
+        to.push("\\\n");
     }
-    Ok(())
 }
 
 /// The checksum of Fowler, Noll and Vo (FNV-1a, 32 bits).
@@ -107,4 +97,9 @@ pub fn checksum(text: &[u8]) -> u32 {
         sum = (sum ^ u32::from(*byte)).wrapping_mul(0x0100_0193);
     }
     sum
+}
+
+/// Adds a word and the checksum of a text, and ends the line.
+pub fn push_checksum(to: &mut Said, word: &str, text: &[u8]) {
+    to.push_count(word, u64::from(checksum(text)));
 }

@@ -50,20 +50,18 @@ fn add_line(texts: &mut Vec<Named>, verb: &str, rest: &str) -> Pushed {
     }
 }
 
-/// Takes a line that tells of texts, or is a remark, and says whether it is one.
-pub(crate) fn tell(texts: &mut Vec<Named>, alloc: Global, line: &str) -> Result<bool, AllocError> {
+/// Takes a line that tells of texts, or is a remark; none where it is another.
+pub(crate) fn tell(texts: &mut Vec<Named>, alloc: Global, line: &str) -> Option<Pushed> {
     if line.is_empty() || line.starts_with('#') {
-        return Ok(true);
+        return Some(Ok(()));
     }
     if let Some(rest) = line.strip_prefix('|') {
-        add_line(texts, "", rest)?;
-        return Ok(true);
+        return Some(add_line(texts, "", rest));
     }
     let (verb, rest) = cut(line);
     match verb {
-        "text" => begin(texts, alloc, rest)?,
-        "repeat" | "numbered" => add_line(texts, verb, rest)?,
-        _ => return Ok(false),
+        "text" => Some(begin(texts, alloc, rest)),
+        "repeat" | "numbered" => Some(add_line(texts, verb, rest)),
+        _ => None,
     }
-    Ok(true)
 }

@@ -15,6 +15,30 @@ pub fn cut(text: &str) -> (&str, &str) {
     cut_at(text, " ")
 }
 
+/// What a call is told: all of it, the first two words, and what stands behind each of these.
+#[derive(Clone, Copy)]
+pub struct Args<'a> {
+    pub all: &'a str,
+    pub first: &'a str,
+    pub behind: &'a str,
+    pub second: &'a str,
+    pub last: &'a str,
+}
+
+impl<'a> Args<'a> {
+    pub fn of(all: &'a str) -> Args<'a> {
+        let (first, behind) = cut(all);
+        let (second, last) = cut(behind);
+        Args {
+            all,
+            first,
+            behind,
+            second,
+            last,
+        }
+    }
+}
+
 /// A number; 0 where there is none.
 pub fn number(word: &str) -> u64 {
     word.parse().unwrap_or(0)
