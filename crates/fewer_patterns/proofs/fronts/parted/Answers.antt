@@ -1,9 +1,0 @@
-use Rattle.std.proofs.Common.{◌∙◌, ap, length}
-use Rattle.std.proofs.lemmas.List.{length-map}
-use Rattle.fewer_patterns.specs.inner.Enough.{is_settled}
-use Rattle.fewer_patterns.proofs.fronts.parted.Goals as goal
-
-pub unmarked-requires : goal.unmarked-requires
-unmarked-requires c =
-    let marks = c.deref.ensures.value ∙ c.in_ok-settled.ensures in
-    record { size = ap length marks ∙ (length-map c.args.last.now (is_settled c.args.start) ∙ c.requires.size) }
