@@ -26,9 +26,9 @@ use Rattle.scan_play.proofs.PlayLemmas.{judged_as, plays_found, plays_nothing}
 use Rattle.lane_play.specs.declared.packed.Lanes.{Lanes}
 use Rattle.lane_play.specs.declared.packing.Machine.{Machine}
 use Rattle.lane_play.specs.Judged.{AreJudged}
-use Rattle.lane_play.specs.inner.Apart.{AreFiled, AreInLeg, AreLines, AreOpen, ArePacked, PlaysAt}
+use Rattle.lane_play.specs.inner.Apart.{AreFiled, AreInLeg, AreLines, AreOpen, ArePacked, IsTeam, PlaysAt}
 use Rattle.lane_play.specs.inner.Lanes.{lanes}
-use Rattle.lane_play.specs.inner.Steps.{ArePlayed, KeepsBehind}
+use Rattle.lane_play.specs.inner.Steps.{ArePlayed}
 use Rattle.lane_play.specs.inner.Verdicts.{found_at, is_open}
 use Rattle.lane_play.proofs.PackLemmas.{all_at, line_at, lines_length}
 
@@ -118,11 +118,10 @@ none_found (suc count) (suc k) = none_found count k
 pub team_lines : (faults : List Fault) (places places2 : List ℕ) (lines lines2 : List Fault) → places2 ≡ places → lines2 ≡ lines → AreLines faults places2 lines → AreLines faults places lines2
 team_lines faults places places2 lines lines2 one two h = subst (AreLines faults places) (sym two) (subst (λ ps. AreLines faults ps lines) one h)
 
-pub team_filed : (places places2 : List ℕ) (state state2 : List Lanes) (said said2 : List (Option Played)) (old new : List Machine) → places2 ≡ places → state2 ≡ state → said2 ≡ said
-    → AreFiled places2 (length places2) state2 said2 old new → AreFiled places (length places) state said old new
-team_filed places places2 state state2 said said2 old new one two three h =
-    subst (λ xs. AreFiled places (length places) state xs old new) three
-    (subst (λ xs. AreFiled places (length places) xs said2 old new) two (subst (λ xs. AreFiled xs (length xs) state2 said2 old new) one h))
+pub team_filed : (places : List ℕ) (state state2 : List Lanes) (said said2 : List (Option Played)) (old new : List Machine) → state2 ≡ state → said2 ≡ said
+    → AreFiled places (length places) state2 said2 old new → AreFiled places (length places) state said old new
+team_filed places state state2 said said2 old new one two h =
+    subst (λ xs. AreFiled places (length places) state xs old new) two (subst (λ xs. AreFiled places (length places) xs said2 old new) one h)
 
 -- ---- a leg
 
@@ -190,16 +189,14 @@ module _ (says : Judging) (faults : List Fault) (n : Netlist) where
         (subst (PlaysOn says (slice_get faults p.0) n cycles 0 begin it.0.state.items) said (h.others p.0 it.0 it.1 o.0)));
   }
 
-  -- and behind the leg they are as far as through it
-  pub team_plays : (played leg : List Burst) (start end : ℕ) (machines : List Machine) (places places2 places3 : List ℕ) (lines lines2 : List Fault) (packed : List Lanes) (found : List (Option Played)) (size count first : ℕ)
-      (state : List Lanes) (after : List (Option Played)) → end ≤ length machines → AreOpen machines start end places → places2 ≡ places → places3 ≡ places → lines2 ≡ lines → AreLines faults places2 lines
-      → ArePacked machines places3 size packed → size ≡ length (cells n) → found ≡ replicate count None → count ≡ length places → first ≡ length (all_cycles played) → AreInLeg says faults n played leg start machines
-      → KeepsBehind (λ fs m cs s. ArePlayed says fs m cs s found) (λ fs m cs s. ArePlayed says fs m cs s after) lines2 n first (all_cycles leg) packed state
-      → ArePlayed says lines2 n (all_cycles played ++ all_cycles leg) state after
-  team_plays played leg start end machines places places2 places3 lines lines2 packed found size count first state after within opens one two three are pack sized none many at h keeps =
-      keeps (all_cycles played) (sym at)
-      (team_begins played leg start end machines places lines2 packed found within opens (team_lines faults places places2 lines lines2 one three are)
-      (subst (λ k. ArePacked machines places k packed) sized (subst (λ ps. ArePacked machines ps size packed) two pack)) (none ∙ ap (λ k. replicate k None) many) h)
+  -- the same of their places and lines as they are lent
+  pub team_ready : (played leg : List Burst) (start end : ℕ) (machines : List Machine) (places places2 : List ℕ) (lines lines2 : List Fault) (packed : List Lanes) (size : ℕ) → IsTeam machines start places end
+      → places2 ≡ places → lines2 ≡ lines → AreLines faults places2 lines → ArePacked machines places2 size packed → size ≡ length (cells n) → AreInLeg says faults n played leg start machines
+      → ArePlayed says lines2 n (all_cycles played) packed (replicate (length lines2) None)
+  team_ready played leg start end machines places places2 lines lines2 packed size team one two are pack sized h =
+      let own = team_lines faults places places2 lines lines2 one two are in
+      team_begins played leg start end machines places lines2 packed (replicate (length lines2) None) team.within.1 team.opens own
+      (subst (λ k. ArePacked machines places k packed) sized (subst (λ ps. ArePacked machines ps size packed) one pack)) (ap (λ k. replicate k None) (lines_length faults places lines2 own)) h
 
   told_stays : (f : Option Fault) (cs ds : List Cycle) (start state : List Tri) (said : Option Played) → said ≢ None → PlaysOn says f n cs 0 start state said → PlaysOn says f n (cs ++ ds) 0 start state said
   told_stays f cs ds start state None told h = absurd (told refl)

@@ -26,7 +26,7 @@ use Rattle.lane_play.specs.declared.packed.Lanes.{Lanes}
 use Rattle.lane_play.specs.inner.Bits.{bit_in, no_bits}
 use Rattle.lane_play.specs.inner.Lanes.{always, lane, lanes, lanes_rule, unknown}
 use Rattle.lane_play.specs.inner.Verdicts.{AreJudgedIn, AreLeft, found_at, is_open}
-use Rattle.lane_play.specs.inner.Steps.{AreEnded, ArePlayed, AreSteps, Keeping, KeepsBehind, KeepsOn, StaysKept}
+use Rattle.lane_play.specs.inner.Steps.{AreEnded, ArePlayed, AreSteps, IsCyclePlayed, Keeping, KeepsBehind, KeepsOn, StaysKept}
 use Rattle.lane_play.proofs.BitLemmas.{bit_in_none}
 use Rattle.lane_play.proofs.LaneBits.{lane_always, lane_next, lane_outs, lane_settles, lane_unknown}
 
@@ -190,3 +190,19 @@ number_here before b t first l size =
     let one = length-append before (take t (cycles_of b)) in
     let two = length-take t (cycles_of b) in
     omega arith
+
+-- ---- the cycles of a burst, one behind the other
+
+module _ (old new : Keeping) (faults : List Fault) (n : Netlist) (first : ℕ) (b : Burst) (t : ℕ) (state after : List Lanes) where
+  pub keeps_more : (mid : Keeping) (between : List Lanes) → t < b.count → KeepsBehind old mid faults n first (take t (cycles_of b)) state between → IsCyclePlayed mid new faults n (first + t) (cycle_of b t) between after
+      → KeepsBehind old new faults n first (take (t + 1) (cycles_of b)) state after
+  keeps_more mid between l kept played before size h =
+      burst_more (λ cs. new faults n cs after) before b t l
+      (played.heard faults n (before ++ take t (cycles_of b)) between after (cycle_of b t) (number_here before b t first l size) refl played.steps (kept before size h))
+
+  pub keeps_all : b.count ≤ t → KeepsBehind old new faults n first (take t (cycles_of b)) state after → KeepsBehind old new faults n first (cycles_of b) state after
+  keeps_all l kept before size h = burst_done (λ cs. new faults n cs after) before b t l (kept before size h)
+
+  pub keeps_rest : StaysKept new → KeepsBehind old new faults n first (take t (cycles_of b)) state after → KeepsBehind old new faults n first (cycles_of b) state after
+  keeps_rest stays kept before size h =
+      burst_stopped (λ cs. new faults n cs after) before b t (stays faults n (before ++ take t (cycles_of b)) (drop t (cycles_of b)) after (kept before size h))

@@ -2,7 +2,7 @@
 //!
 //! A judge says the same of all machines that show the same value at a strobe. So it is asked for each of the three values, and their bits tell
 //! whether something is said of a machine of which nothing was; that is seldom, and then all machines are walked.
-ghost use Rattle.std.specs.Prelude.{◌≡◌, ◌≢◌, ◌&&◌, ◌^◌, ◌<◌, ◌≤◌, ℕ, None, IfOk, length, not, replicate};
+ghost use Rattle.std.specs.Prelude.{◌≡◌, ◌&&◌, ◌^◌, ◌<◌, ◌≤◌, ℕ, None, IfOk, length, not, replicate};
 ghost use Rattle.statement.specs.declared.kinds.Tri.TheVariants.{Zero, One, X};
 ghost use Rattle.scan_play.specs.Judging.{played_or_else};
 ghost use Rattle.lane_play.specs.inner.Bits.{bit_in};

@@ -18,7 +18,7 @@ mod packing;
 mod pins;
 mod planning;
 mod playing;
-mod shifting;
+mod plays;
 mod spans;
 mod stuck;
 mod watching;

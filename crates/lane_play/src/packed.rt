@@ -2,7 +2,7 @@
 //!
 //! One says which values are known and one which bits they are. With "can be 0" and "can be 1" a gate would cost an operation less,
 //! but then a pair of bits would have no meaning, and each contract would have to exclude it.
-ghost use Rattle.std.specs.Prelude.{◌≡◌, ◌<◌, true, false};
+ghost use Rattle.std.specs.Prelude.{◌≡◌, ◌<◌, true};
 ghost use Rattle.lane_play.specs.inner.Lanes.{both, either, unequal, opposite, always, unknown, with_lane, lane};
 
 use crate::bits::Bits;

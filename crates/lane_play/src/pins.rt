@@ -1,5 +1,5 @@
 //! The values on the pins of a gate, by place: as they are given, read from the values of all signals, or read where lines are stuck.
-ghost use Rattle.std.specs.Prelude.{◌≡◌, ◌<◌, ◌≤◌, ℕ, List, length, map, slice_index_or};
+ghost use Rattle.std.specs.Prelude.{◌≡◌, ◌<◌, ◌≤◌, List, length, map, slice_index_or};
 ghost use Rattle.std.specs.List.{All};
 ghost use Rattle.netlist.specs.Gates.{most_pins};
 ghost use Rattle.statement.specs.Values.{on_pins};

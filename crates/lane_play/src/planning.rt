@@ -3,10 +3,13 @@
 //! What settles where all that changes is X stays in a machine wherever it is known there. A gate is left out where that is so in every machine:
 //! while the chains shift, the shift path is evaluated, and of the other gates those that a machine's stuck line lets through to a cell.
 ghost use Rattle.std.specs.Prelude.{◌≡◌, ◌<◌, ◌≤◌, ◌++◌, ℕ, true, false, length, replicate, IfOk, OnOk};
-ghost use Rattle.statement.specs.Netlists.{cells, signals};
+ghost use Rattle.std.specs.List.{All};
+ghost use Rattle.statement.specs.Netlists.{signals};
 ghost use Rattle.netlist.specs.ThreeValues.{is_x};
+ghost use Rattle.scan_play.specs.Bursts.{cycles_of};
+ghost use Rattle.scan_play.specs.Cycles.{IsCycleOf};
 ghost use Rattle.lane_play.specs.inner.Lanes.{lane, unknown};
-ghost use Rattle.lane_play.specs.inner.Shifts.{AreCommon, ArePlanned};
+ghost use Rattle.lane_play.specs.inner.Shifts.{AreCommon, ArePlanned, AreStill};
 
 use crate::cycles::{Bench, push_always};
 use crate::evaluating::settle_into;
@@ -16,10 +19,11 @@ use netlist::{Core, Tri};
 use scan_play::{Burst, Plan};
 use std::alloc::{AllocError, Global};
 
-/// Room to plan a burst in.
+/// Room to plan a burst in: for cells of which nothing is known, and for what is known in every machine.
 #[derive(Drop)]
 pub(crate) struct Planner {
     pub plan: Plan,
+    idle: Vec<Lanes>,
     common: Vec<Tri>,
 }
 
@@ -27,6 +31,7 @@ impl Planner {
     pub(crate) fn new(alloc: Global) -> Planner {
         Planner {
             plan: Plan::new(alloc),
+            idle: Vec::new(alloc),
             common: Vec::new(alloc),
         }
     }
@@ -71,38 +76,79 @@ pub(crate) fn push_unknowns(count: usize, values: &mut Vec<Lanes>) -> Result<(),
     Ok(())
 }
 
-/// Puts what stays through a burst into the values, and chooses the gates that its cycles have to evaluate. Answers whether these will do.
-pub(crate) fn plan_burst(
+/// What settles where nothing is known of the cells, nor of the inputs that change in a burst. `drive` and `idle` are room for what is driven.
+fn settle_still(
     core: &Core,
     rule: &Stuck,
     burst: &Burst,
-    idle: &[Lanes],
+    drive: &mut Vec<Lanes>,
+    idle: &mut Vec<Lanes>,
+    values: &mut Vec<Lanes>,
+) -> Result<(), AllocError>
+    requires narrow { length burst.now.drive.items ≤ length core.now.inputs }
+    requires size { length values.old.items ≡ length (signals core.now) }
+    ensures still { OnOk result (AreStill rule.now.faults.now core.now burst.now.drive.items values.new.items) }
+    ensures size { OnOk result (length values.new.items ≡ length (signals core.now)) }
+{
+    let netlist = core.netlist();
+    netlist.sound();
+    drive.clear();
+    push_always(&burst.drive, drive)?;
+    push_unknowns(netlist.inputs().len() - burst.drive.len(), drive)?;
+    idle.clear();
+    push_unknowns(netlist.cells().len(), idle)?;
+    settle_into(rule, netlist, core.order(), drive, idle, values);
+    Ok(())
+}
+
+/// Puts what stays through a burst into the values, and chooses the gates that its cycles have to evaluate. Answers whether these will do.
+fn plan_burst(
+    core: &Core,
+    rule: &Stuck,
+    burst: &Burst,
     planner: &mut Planner,
     bench: &mut Bench,
 ) -> Result<bool, AllocError>
     requires narrow { length burst.now.drive.items ≤ length core.now.inputs }
-    requires idle { idle.now ≡ replicate (length (cells core.now)) unknown }
-    requires room { length bench.old.values.items ≡ length (signals core.now) }
+    requires size { length bench.old.values.items ≡ length (signals core.now) }
     ensures state { IfOk result (λ _. bench.new.state.items ≡ bench.old.state.items) }
-    ensures room { IfOk result (λ _. length bench.new.values.items ≡ length (signals core.now)) }
+    ensures size { IfOk result (λ _. length bench.new.values.items ≡ length (signals core.now)) }
     ensures planned { IfOk result (λ yes. yes ≡ true → ArePlanned rule.now.faults.now core.now burst.now.drive.items burst.now.strobe.items planner.new.plan.steps.items bench.new.values.items) }
 {
-    let netlist = core.netlist();
-    netlist.sound();
-    bench.drive.clear();
-    push_always(&burst.drive, &mut bench.drive)?;
-    push_unknowns(netlist.inputs().len() - burst.drive.len(), &mut bench.drive)?;
-    settle_into(
+    settle_still(
+        core,
         rule,
-        netlist,
-        core.order(),
-        &bench.drive,
-        idle,
+        burst,
+        &mut bench.drive,
+        &mut planner.idle,
         &mut bench.values,
-    );
+    )?;
     read_common(&bench.values, &mut planner.common)?;
     let chosen = planner
         .plan
         .choose_steps(core, &burst.strobe, &planner.common)?;
     Ok(chosen)
+}
+
+/// From so many cycles on it pays to plan a burst.
+const LONG: usize = 4;
+
+/// Plans a burst, where that pays. Answers whether the gates that were chosen will do.
+pub(crate) fn is_planned(
+    core: &Core,
+    rule: &Stuck,
+    burst: &Burst,
+    planner: &mut Planner,
+    bench: &mut Bench,
+) -> Result<bool, AllocError>
+    requires fits { All (IsCycleOf core.now) (cycles_of burst.now) }
+    requires size { length bench.old.values.items ≡ length (signals core.now) }
+    ensures state { IfOk result (λ _. bench.new.state.items ≡ bench.old.state.items) }
+    ensures size { IfOk result (λ _. length bench.new.values.items ≡ length (signals core.now)) }
+    ensures planned { IfOk result (λ yes. yes ≡ true → ArePlanned rule.now.faults.now core.now burst.now.drive.items burst.now.strobe.items planner.new.plan.steps.items bench.new.values.items) }
+{
+    if burst.count < LONG {
+        return Ok(false);
+    }
+    plan_burst(core, rule, burst, planner, bench)
 }

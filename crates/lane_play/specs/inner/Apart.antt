@@ -13,6 +13,7 @@ use Rattle.scan_play.specs.inner.Steps.{PlaysOn}
 use Rattle.lane_play.specs.declared.packing.Machine.{Machine}
 use Rattle.lane_play.specs.declared.packed.Lanes.{Lanes}
 use Rattle.lane_play.specs.inner.Lanes.{lanes}
+use Rattle.lane_play.specs.inner.Steps.{ArePlayed}
 use Rattle.lane_play.specs.inner.Verdicts.{found_at}
 
 -- these cycles were played, from all cells X, with the fault at this place: so far is the machine
@@ -29,6 +30,12 @@ pub record AreInLeg (says : Judging) (faults : List Fault) (n : Netlist) (played
 pub record AreOpen (machines : List Machine) (start end : ℕ) (places : List ℕ) : Type 0 where
   pub each : (k place : ℕ) → slice_get places k ≡ Some place → (start ≤ place) × (place < end) × ((m : Machine) → slice_get machines place ≡ Some m → m.said ≡ None)
   pub all : (place : ℕ) (m : Machine) → slice_get machines place ≡ Some m → start ≤ place → place < end → m.said ≡ None → (k : ℕ) × (slice_get places k ≡ Some place)
+
+-- up to 128 such machines, behind which none is left out up to a place
+pub record IsTeam (machines : List Machine) (start : ℕ) (places : List ℕ) (end : ℕ) : Type 0 where
+  pub few : length places ≤ 128
+  pub within : (start < end) × (end ≤ length machines)
+  pub opens : AreOpen machines start end places
 
 -- the faults at these places
 abbrev pub AreLines : List Fault → List ℕ → List Fault → Type 0
@@ -49,3 +56,9 @@ pub record AreFiled (places : List ℕ) (count : ℕ) (state : List Lanes) (said
   pub size : length new ≡ length old
   pub each : (place : ℕ) (m : Machine) → slice_get new place ≡ Some m
       → ((slice_get old place ≡ Some m) × ((k : ℕ) → k < count → slice_get places k ≢ Some place)) ⊎ ((k : ℕ) × (k < count) × (slice_get places k ≡ Some place) × IsFiled state said k m)
+
+-- these cycles were played with the machines at these places side by side, from all cells X: what was said of each, and what the cells hold
+pub record IsTeamPlayed (says : Judging) (faults : List Fault) (n : Netlist) (cycles : List Cycle) (places : List ℕ) (state : List Lanes) (found : List (Option Played)) : Type 0 where
+  pub lines : List Fault
+  pub are_lines : AreLines faults places lines
+  pub played : ArePlayed says lines n cycles state found

@@ -37,6 +37,12 @@ KeepsOn old new number strobes row =
     (faults : List Fault) (n : Netlist) (before : List Cycle) (state after : List Lanes) (cycle : Cycle) → length before ≡ number → cycle.strobe ≡ strobes
     → AreSteps faults n state after cycle number row → old faults n before state → new faults n (before ++ cycle ∷ []) after
 
+-- a cycle of this number was played and heard: where it held of as many cycles as this number, it holds after this one more
+pub record IsCyclePlayed (old new : Keeping) (faults : List Fault) (n : Netlist) (number : ℕ) (cycle : Cycle) (state after : List Lanes) : Type 0 where
+  pub row : List Lanes
+  pub heard : KeepsOn old new number cycle.strobe row
+  pub steps : AreSteps faults n state after cycle number row
+
 -- where as many cycles as `first` were played, it holds after these behind them
 abbrev pub KeepsBehind : Keeping → Keeping → List Fault → Netlist → ℕ → List Cycle → List Lanes → List Lanes → Type 0
 KeepsBehind old new faults n first cycles state after = (before : List Cycle) → length before ≡ first → old faults n before state → new faults n (before ++ cycles) after

@@ -1,49 +1,58 @@
-use Rattle.std.proofs.Common.{◌+◌, ◌++◌, drop, refl, take}
-use Rattle.scan_play.specs.Bursts.{cycle_of, cycles_of}
+use Rattle.std.proofs.Common.{◌+◌}
 use Rattle.scan_play.proofs.PlaySteps.{cycle_fits}
-use Rattle.lane_play.proofs.PlayedLemmas.{burst_done, burst_more, burst_none, burst_stopped, number_here}
+use Rattle.lane_play.proofs.PlayedLemmas.{keeps_all, keeps_more, keeps_none, keeps_rest}
+use Rattle.lane_play.proofs.ShiftLemmas.{enough_size}
 use Rattle.lane_play.proofs.cycles.play_cycles.Goals as goal
 
 pub play_cycle-requires-clause-fits : goal.play_cycle-requires-clause-fits
-play_cycle-requires-clause-fits g c = cycle_fits c.args.core.now c.args.burst.now c.loop-t.t c.requires.fits c.loop-t-test.true
+play_cycle-requires-clause-fits g c = cycle_fits c.args.play.now.core.now c.args.passage.now.burst.now c.loop-t.t c.requires.fits c.loop-t-test.true
+
+pub returns-then-is_done-clause-bench : goal.returns-then-is_done-clause-bench
+returns-then-is_done-clause-bench g c =
+    let p = c.args.passage.now in
+    let e = c.in_ok-so_far.ensures in
+    (e.size, enough_size c.args.play.now.rule.faults.now c.args.play.now.core.now p.burst.now p.steps.now c.play_cycle.new.bench.values.items e.enough)
 
 pub returns-then-is_done-clause-played : goal.returns-then-is_done-clause-played
-returns-then-is_done-clause-played g c before size h =
-    let faults = c.args.rule.now.faults.now in
-    let n = c.args.core.now in
-    let b = c.args.burst.now in
+returns-then-is_done-clause-played g c =
+    let p = c.args.passage.now in
+    let faults = c.args.play.now.rule.faults.now in
+    let n = c.args.play.now.core.now in
     let t = c.loop-t.t in
+    let begin = c.args.bench.now.state.items in
     let state = c.play_cycle.new.bench.state.items in
-    let p = c.in_ok-so_far.ensures.played in
-    let kept = g.W.Watch.kept c.args.judge.now c.in_ok-so_far.so_far in
-    burst_stopped (λ cs. kept faults n cs state) before b (t + 1)
-    (c.is_done.ensures c.if-is_done.true c.args.judge.now faults n (before ++ take (t + 1) (cycles_of b)) (drop (t + 1) (cycles_of b)) state
-    (burst_more (λ cs. kept faults n cs state) before b t c.loop-t-test.true
-    (p.1 faults n (before ++ take t (cycles_of b)) c.loop-t.bench.state.items state (cycle_of b t) (number_here before b t c.args.first c.loop-t-test.true size) refl p.2
-    (c.loop-t.invariant.played before size h))))
+    let kept = g.W.Watch.kept c.args.play.now.judge.now in
+    keeps_rest (kept c.args.watch) (kept c.in_ok-so_far.so_far) faults n p.first p.burst.now (t + 1) begin state (c.is_done.ensures c.if-is_done.true c.args.play.now.judge.now)
+    (keeps_more (kept c.args.watch) (kept c.in_ok-so_far.so_far) faults n p.first p.burst.now t begin state (kept c.loop-t.so_far) c.loop-t.bench.state.items c.loop-t-test.true c.loop-t.invariant.played
+    c.in_ok-so_far.ensures.played)
 
 pub loop-t-init : goal.loop-t-init
 loop-t-init g c = record {
-  bench = c.requires.bench;
-  played = λ before size h. burst_none (λ cs. g.W.Watch.kept c.args.judge.now c.args.watch c.args.rule.now.faults.now c.args.core.now cs c.args.bench.now.state.items) before c.args.burst.now h;
+  size = c.requires.size;
+  enough = c.requires.enough;
+  played = keeps_none (g.W.Watch.kept c.args.play.now.judge.now c.args.watch) c.args.play.now.rule.faults.now c.args.play.now.core.now c.args.passage.now.first c.args.bench.now.state.items;
 }
 
 pub loop-t-preserved : goal.loop-t-preserved
-loop-t-preserved g c = record {
-  bench = c.in_ok-so_far.ensures.bench;
-  played = λ before size h.
-      let faults = c.args.rule.now.faults.now in
-      let n = c.args.core.now in
-      let b = c.args.burst.now in
-      let t = c.loop-t.t in
-      let state = c.play_cycle.new.bench.state.items in
-      let p = c.in_ok-so_far.ensures.played in
-      burst_more (λ cs. g.W.Watch.kept c.args.judge.now c.in_ok-so_far.so_far faults n cs state) before b t c.loop-t-test.true
-      (p.1 faults n (before ++ take t (cycles_of b)) c.loop-t.bench.state.items state (cycle_of b t) (number_here before b t c.args.first c.loop-t-test.true size) refl p.2
-      (c.loop-t.invariant.played before size h));
-}
+loop-t-preserved g c =
+    let p = c.args.passage.now in
+    let kept = g.W.Watch.kept c.args.play.now.judge.now in
+    let e = c.in_ok-so_far.ensures in
+    record {
+      size = e.size;
+      enough = e.enough;
+      played = keeps_more (kept c.args.watch) (kept c.in_ok-so_far.so_far) c.args.play.now.rule.faults.now c.args.play.now.core.now p.first p.burst.now c.loop-t.t c.args.bench.now.state.items
+          c.play_cycle.new.bench.state.items (kept c.loop-t.so_far) c.loop-t.bench.state.items c.loop-t-test.true c.loop-t.invariant.played e.played;
+    }
+
+pub returns-clause-bench : goal.returns-clause-bench
+returns-clause-bench g c =
+    let p = c.args.passage.now in
+    (c.loop-t.invariant.size, enough_size c.args.play.now.rule.faults.now c.args.play.now.core.now p.burst.now p.steps.now c.loop-t.bench.values.items c.loop-t.invariant.enough)
 
 pub returns-clause-played : goal.returns-clause-played
-returns-clause-played g c before size h =
-    burst_done (λ cs. g.W.Watch.kept c.args.judge.now c.loop-t.so_far c.args.rule.now.faults.now c.args.core.now cs c.loop-t.bench.state.items) before c.args.burst.now c.loop-t.t
-    c.loop-t-test.false (c.loop-t.invariant.played before size h)
+returns-clause-played g c =
+    let p = c.args.passage.now in
+    let kept = g.W.Watch.kept c.args.play.now.judge.now in
+    keeps_all (kept c.args.watch) (kept c.loop-t.so_far) c.args.play.now.rule.faults.now c.args.play.now.core.now p.first p.burst.now c.loop-t.t c.args.bench.now.state.items c.loop-t.bench.state.items
+    c.loop-t-test.false c.loop-t.invariant.played

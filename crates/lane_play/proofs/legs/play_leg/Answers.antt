@@ -8,4 +8,4 @@ returns g c =
     let within = c.loop-start.invariant.within in
     let last = c.loop-start-test.false in
     let same : c.loop-start.start ≡ length machines = omega arith in
-    subst (λ k. AreInLeg (g.J.Judge.says c.args.judge.now) c.args.faults.now c.args.core.now c.args.played.now c.args.leg.now k machines) same c.loop-start.invariant.apart
+    subst (λ k. AreInLeg (g.J.Judge.says c.args.leg.now.judge.now) c.args.leg.now.faults.now c.args.leg.now.core.now c.args.leg.now.played.now c.args.leg.now.bursts.now k machines) same c.loop-start.invariant.apart
