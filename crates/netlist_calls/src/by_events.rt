@@ -7,18 +7,12 @@ ghost use Rattle.statement.specs.Netlists.{cells};
 ghost use Rattle.statement.specs.declared.lines.Fault.{Fault as FaultOf};
 
 use crate::faults::all_faults;
-use case_text::{Pushed, push_number, push_numbers};
+use case_text::{Pushed, Said};
 use events::{Events, Words};
 use netlist::{Core, Fault};
 use rand_core::Rng;
 use rand_pcg::Pcg32;
 use std::alloc::{AllocError, Global};
-
-fn no_words(alloc: Global, count: usize) -> Result<Vec<u64>, AllocError>
-    ensures { IfOk result (λ v. length v.items ≡ count) }
-{
-    vec![in alloc; 0; count]
-}
 
 /// Puts a random word at a random place, if there is one.
 fn change_one(words: &mut Vec<u64>, random: &mut Pcg32)
@@ -42,9 +36,11 @@ fn nothing_driven(alloc: Global, core: &Core) -> Result<Driven, AllocError>
     ensures inputs { IfOk result (λ d. length d.inputs.items ≡ length core.now.inputs) }
     ensures state { IfOk result (λ d. length d.state.items ≡ length (cells core.now)) }
 {
-    let inputs = no_words(alloc, core.netlist().inputs().len())?;
-    let state = no_words(alloc, core.netlist().cells().len())?;
-    Ok(Driven { inputs, state })
+    let netlist = core.netlist();
+    Ok(Driven {
+        inputs: vec![in alloc; 0; netlist.inputs().len()]?,
+        state: vec![in alloc; 0; netlist.cells().len()]?,
+    })
 }
 
 /// Whether the values that stand are those that settle from scratch.
@@ -122,13 +118,13 @@ fn settled_events<'a>(
 
 /// The first change of these after which something isn't as from scratch, each with the next line of the list stuck.
 fn first_other(
-    alloc: Global,
     core: &Core,
     events: &mut Events<'_, u64>,
     driven: &mut Driven,
     faults: &[Fault],
-    random: &mut Pcg32,
+    seed: u64,
     changes: u32,
+    alloc: Global,
 ) -> Result<Option<u32>, AllocError>
     requires netlist { events.old.netlist ≡ core.now }
     requires inputs { length driven.old.inputs.items ≡ length core.now.inputs }
@@ -136,41 +132,16 @@ fn first_other(
     requires some { 0 < length faults.now }
     requires lines { All (λ (f : FaultOf). IsLineOf core.now f.line) faults.now }
 {
+    let mut random = Pcg32::new(seed, 54);
     for change in 0..changes {
-        change_one(&mut driven.inputs, random);
-        change_one(&mut driven.state, random);
+        change_one(&mut driven.inputs, &mut random);
+        change_one(&mut driven.state, &mut random);
         let fault = faults[change as usize % faults.len()];
         if !is_as_from_scratch(alloc, core, events, fault, driven)? {
             return Ok(Some(change));
         }
     }
     Ok(None)
-}
-
-fn first_driven(
-    alloc: Global,
-    core: &Core,
-    driven: &mut Driven,
-    faults: &[Fault],
-    seed: u64,
-    changes: u32,
-) -> Result<Option<u32>, AllocError>
-    requires inputs { length driven.old.inputs.items ≡ length core.now.inputs }
-    requires state { length driven.old.state.items ≡ length (cells core.now) }
-    requires some { 0 < length faults.now }
-    requires lines { All (λ (f : FaultOf). IsLineOf core.now f.line) faults.now }
-{
-    let mut events = settled_events(alloc, core, driven)?;
-    let mut random = Pcg32::new(seed, 54);
-    first_other(
-        alloc,
-        core,
-        &mut events,
-        driven,
-        faults,
-        &mut random,
-        changes,
-    )
 }
 
 fn first_drawn(
@@ -184,28 +155,25 @@ fn first_drawn(
     requires lines { All (λ (f : FaultOf). IsLineOf core.now f.line) faults.now }
 {
     let mut driven = nothing_driven(alloc, core)?;
-    first_driven(alloc, core, &mut driven, faults, seed, changes)
-}
-
-fn push_other(to: &mut Vec<u8>, changes: u32, other: Option<u32>) -> Pushed {
-    if let Some(change) = other {
-        return push_numbers(to, b"not as from scratch: change", &[change]);
-    }
-    push_number(to, changes)?;
-    to.extend_from_slice(b" changes, all as from scratch\n")
+    let mut events = settled_events(alloc, core, &driven)?;
+    first_other(core, &mut events, &mut driven, faults, seed, changes, alloc)
 }
 
 /// `events SEED CHANGES`: so many random changes of what is driven, each with the next line of the list stuck and taken back.
-pub fn push_changes(to: &mut Vec<u8>, alloc: Global, core: &Core, seed: u64, changes: u32) -> Pushed
+pub fn push_changes(to: &mut Said, core: &Core, seed: u64, changes: u32) -> Pushed
     requires { IsDesign core.now }
 {
-    let faults = all_faults(alloc, core.netlist())?;
+    let faults = all_faults(to.alloc, core.netlist())?;
     if faults.is_empty() {
-        return to.extend_from_slice(b"no fault\n");
+        to.push("no fault\n");
+        return Ok(());
     }
-    push_other(
-        to,
-        changes,
-        first_drawn(alloc, core, &faults, seed, changes)?,
-    )
+    match first_drawn(to.alloc, core, &faults, seed, changes)? {
+        Some(change) => to.push_count("not as from scratch: change ", u64::from(change)),
+        None => {
+            to.push_number(u64::from(changes));
+            to.push(" changes, all as from scratch\n");
+        }
+    }
+    Ok(())
 }

@@ -15,7 +15,6 @@ mod nets;
 mod scans;
 mod script;
 mod searches;
-mod times;
 mod trees;
 mod values;
 

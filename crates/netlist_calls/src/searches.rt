@@ -5,22 +5,12 @@ ghost use Rattle.netlist.specs.Lines.{IsLineOf};
 
 use crate::faults::listed;
 use case_nets::holds_of;
-use case_text::{Pushed, cut, small};
+use case_text::{Args, Pushed, Said, small};
 use evidence::{Engine, Found};
 use fan::Fan;
 use netlist::{Core, Fault, Holds, NoMemory};
 use podem::Podem;
 use std::alloc::{AllocError, Global};
-
-fn word_of(found: Result<Found, NoMemory>) -> Result<&'static str, AllocError> {
-    match found {
-        Ok(Found::Test(_, _)) => Ok("test\n"),
-        Ok(Found::Closed(_)) => Ok("closed\n"),
-        Ok(Found::Refuted(_)) => Ok("refuted\n"),
-        Ok(Found::Partial(_)) => Ok("partial\n"),
-        Err(_) => Err(AllocError),
-    }
-}
 
 #[derive(Clone, Copy)]
 pub enum By {
@@ -46,14 +36,28 @@ fn found_by(
     }
 }
 
+fn word_of(found: &Found) -> &'static str {
+    match found {
+        Found::Test(_, _) => "test\n",
+        Found::Closed(_) => "closed\n",
+        Found::Refuted(_) => "refuted\n",
+        Found::Partial(_) => "partial\n",
+    }
+}
+
 /// `search HELD LIMIT FAULT`, `search-fan ..`: whether the engine finds a test, shows that there is none, or gives up at the backtrack limit.
-pub fn push_search(to: &mut Vec<u8>, alloc: Global, core: &Core, rest: &str, by: By) -> Pushed {
-    let (held, rest) = cut(rest);
-    let (limit, fault) = cut(rest);
-    let Some(fault) = listed(core.netlist(), fault) else {
-        return to.extend_from_slice(b"no fault\n");
+pub fn push_search(to: &mut Said, core: &Core, args: &Args<'_>, by: By) -> Pushed {
+    let Some(fault) = listed(core.netlist(), args.last) else {
+        to.push("no fault\n");
+        return Ok(());
     };
-    let holds = holds_of(alloc, core, held)?;
-    let word = word_of(found_by(by, alloc, core, fault, small(limit).max(1), &holds))?;
-    to.extend_from_slice(word.as_bytes())
+    let holds = holds_of(to.alloc, core, args.first)?;
+    let limit = small(args.second).max(1);
+    match found_by(by, to.alloc, core, fault, limit, &holds) {
+        Ok(found) => {
+            to.push(word_of(&found));
+            Ok(())
+        }
+        Err(_) => Err(AllocError),
+    }
 }
