@@ -1,12 +1,12 @@
 //! What compaction keeps of a list after calls.
-ghost use Rattle.std.specs.Prelude.{◌≡◌, ◌+◌, ◌<◌, ◌≤◌, ◌^◌, IsTrue, length};
-ghost use Rattle.netlist.specs.Holds.{AreHoldsOf, none_held};
-ghost use Rattle.list_core.specs.Subjects.{HaveLines, class_count};
+ghost use Rattle.std.specs.Prelude.{◌≡◌, ◌+◌, ◌≤◌, ◌^◌, length};
+ghost use Rattle.list_core.specs.Subjects.{HaveLines};
 
-use crate::list_text::{push_kept, push_verdict};
+use crate::list_text::{push_patterns, push_verdict};
 use crate::lists::list_after;
-use list_core::{About, FaultList, Finished, compact};
-use netlist::{Core, Fault, Holds, Netlist, NoMemory};
+use crate::topics::Topic;
+use list_core::{About, FaultList, Finished, Verdict, compact};
+use netlist::{Core, Fault, Netlist, NoMemory};
 use std::alloc::{AllocError, Global};
 use word_sim::last_tells;
 
@@ -27,22 +27,14 @@ fn compacted<J: About>(
     compact(alloc, patterns, verdicts, &last)
 }
 
-/// Adds the patterns that are kept.
-fn push_patterns(to: &mut Vec<u8>, finished: &Finished) -> Result<(), AllocError> {
-    for pattern in &finished.patterns {
-        push_kept(to, pattern)?;
-    }
-    Ok(())
-}
-
 /// Adds the verdict of each class.
 fn push_verdicts(
     to: &mut Vec<u8>,
     netlist: &Netlist,
-    finished: &Finished,
+    verdicts: &[Verdict],
 ) -> Result<(), AllocError> {
     let mut class = 0u32;
-    for verdict in &finished.verdicts {
+    for verdict in verdicts {
         push_verdict(to, netlist, class, verdict)?;
         class = class.wrapping_add(1);
     }
@@ -54,33 +46,31 @@ fn push_finished(
     netlist: &Netlist,
     finished: &Finished,
 ) -> Result<(), AllocError> {
-    push_patterns(to, finished)?;
-    push_verdicts(to, netlist, finished)
+    push_patterns(to, &finished.patterns)?;
+    push_verdicts(to, netlist, &finished.verdicts)
+}
+
+/// Adds what is kept once the list is compacted.
+fn push_compacted<J: About>(
+    to: &mut Vec<u8>,
+    topic: &Topic<'_, J>,
+    list: FaultList<J>,
+) -> Result<(), AllocError> {
+    if list.patterns().len() > 1_000_000 {
+        return Err(AllocError);
+    }
+    match compacted(topic.alloc, topic.core, topic.faults, list) {
+        Ok(finished) => push_finished(to, topic.core.netlist(), &finished),
+        Err(_) => Err(AllocError),
+    }
 }
 
 /// The calls of a text, one by one, and what is kept once the list is compacted.
 pub fn play_compacted<J: About>(
     to: &mut Vec<u8>,
-    alloc: Global,
-    core: &Core,
-    faults: &[Fault],
-    limit: u32,
-    holds: &Holds,
+    topic: &Topic<'_, J>,
     calls: &[u8],
-) -> Result<(), AllocError>
-    requires core { core.now ≡ J.subject.netlist }
-    requires faults { (faults.now ≡ J.subject.faults) × (class_count J.subject < 2 ^ 31) }
-    requires limit { (limit ≡ J.subject.limit) × (1 ≤ limit) }
-    requires lines { HaveLines J.subject }
-    requires held { (holds.now ≡ J.subject.holds) × (holds.now ≡ none_held core.now) × AreHoldsOf core.now holds.now }
-    requires refutes { IsTrue J.subject.refutes }
-{
-    let list = list_after::<J>(to, alloc, core, faults, limit, holds, calls)?;
-    if list.patterns().len() > 1_000_000 {
-        return Err(AllocError);
-    }
-    match compacted(alloc, core, faults, list) {
-        Ok(finished) => push_finished(to, core.netlist(), &finished),
-        Err(_) => Err(AllocError),
-    }
+) -> Result<(), AllocError> {
+    let list = list_after(to, topic, calls)?;
+    push_compacted(to, topic, list)
 }

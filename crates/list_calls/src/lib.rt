@@ -8,6 +8,7 @@
 mod compaction;
 mod from_texts;
 mod goals;
+mod hands;
 mod labels;
 mod list_text;
 mod lists;
@@ -15,5 +16,7 @@ mod playing;
 mod script;
 mod searches;
 mod sharing;
+mod topics;
+mod verbs;
 
 pub use script::ListCalls;

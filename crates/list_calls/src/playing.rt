@@ -1,5 +1,5 @@
 //! Calls of a new list, alone or behind its lock.
-ghost use Rattle.std.specs.Prelude.{◌<◌, ◌≤◌, IfOk, length};
+ghost use Rattle.std.specs.Prelude.{◌≡◌, ◌<◌, ◌≤◌, true, IfOk};
 ghost use Rattle.std.specs.List.{All};
 ghost use Rattle.statement.specs.declared.lines.Fault.{Fault as FaultOf};
 ghost use Rattle.netlist.specs.Designs.{IsDesign};
@@ -9,9 +9,11 @@ ghost use Rattle.plain_text.specs.Limits.{most_workers};
 use crate::compaction::play_compacted;
 use crate::lists::play_list;
 use crate::sharing::play_shares;
+use crate::topics::{Plan, topic_of};
 use case_nets::{classes_of, have_lines};
 use case_text::{cut, cut_at, small};
 use fault_collapse::Classes;
+use list_core::About;
 use netlist::{Core, Fault, Holds, Netlist};
 use std::alloc::{AllocError, Global};
 use std::marker::Brand;
@@ -72,33 +74,52 @@ fn faults_of(alloc: Global, netlist: &Netlist, numbers: &str) -> Result<Vec<Faul
     chosen(alloc, netlist, &classes, numbers)
 }
 
-/// Adds what the calls answer where no input is held.
+/// The plan's calls on a new list, which may be compacted in the end, under a name for what it is about.
+fn play_alone<J: About>(to: &mut Vec<u8>, plan: &Plan<'_>, compacts: bool) -> Result<(), AllocError>
+    requires { J.subject ≡ record plan.now { refutes = true } }
+{
+    let Ok(holds) = Holds::none(plan.alloc, plan.core) else {
+        return Err(AllocError);
+    };
+    let topic = topic_of::<J>(plan, &holds, true);
+    if compacts {
+        play_compacted(to, &topic, plan.calls)
+    } else {
+        play_list(to, &topic, plan.calls)
+    }
+}
+
+/// The plan's calls on a new list behind its lock, under a name for what it is about.
+fn play_locked<J: About, R: Wait>(
+    to: &mut Vec<u8>,
+    rt: &R,
+    plan: &Plan<'_>,
+    workers: u32,
+) -> Result<(), AllocError>
+    requires subject { J.subject ≡ plan.now }
+    requires workers { (0 < workers) × (workers ≤ most_workers) }
+{
+    let Ok(holds) = Holds::none(plan.alloc, plan.core) else {
+        return Err(AllocError);
+    };
+    let topic = topic_of::<J>(plan, &holds, false);
+    play_shares(to, rt, &topic, workers, plan.calls)
+}
+
+/// Adds what the plan's calls answer.
 fn play<R: Wait>(
     to: &mut Vec<u8>,
     rt: &R,
-    alloc: Global,
-    core: &Core,
-    faults: &[Fault],
-    limit: u32,
+    plan: &Plan<'_>,
     workers: u32,
-    calls: &str,
     on: On,
 ) -> Result<(), AllocError>
-    requires lines { All (λ (f : FaultOf). IsLineOf core.now f.line) faults.now }
-    requires few { length faults.now ≤ 1000000 }
-    requires limit { 1 ≤ limit }
-    requires workers { (0 < workers) × (workers ≤ most_workers) }
+    requires { (0 < workers) × (workers ≤ most_workers) }
 {
-    let Ok(holds) = Holds::none(alloc, core) else {
-        return Err(AllocError);
-    };
-    let calls = calls.as_bytes();
     match on {
-        On::List => play_list::<Brand>(to, alloc, core, faults, limit, &holds, calls),
-        On::Compacted => play_compacted::<Brand>(to, alloc, core, faults, limit, &holds, calls),
-        On::Shares => {
-            play_shares::<Brand, R>(to, rt, alloc, core, faults, limit, &holds, workers, calls)
-        }
+        On::List => play_alone::<Brand>(to, plan, false),
+        On::Compacted => play_alone::<Brand>(to, plan, true),
+        On::Shares => play_locked::<Brand, R>(to, rt, plan, workers),
     }
 }
 
@@ -123,5 +144,12 @@ pub fn push_played<R: Wait>(
     if faults.len() > 1_000_000 {
         return to.extend_from_slice(b"more than 1000000 classes\n");
     }
-    play(to, rt, alloc, core, &faults, limit, workers, calls, on)
+    let plan = Plan {
+        alloc,
+        core,
+        faults: &faults,
+        limit,
+        calls: calls.as_bytes(),
+    };
+    play(to, rt, &plan, workers, on)
 }
