@@ -25,7 +25,7 @@ use Rattle.worker.specs.Working.{IsDone, NoneOpen}
 use Rattle.run_files.specs.declared.asked.AskedClasses.{AskedClasses}
 use Rattle.run_files.specs.inner.Classes.{AreAskedClasses, IsAskedClass, asked_in, detected_in, is_zero}
 use Rattle.run_files.specs.inner.Often.{AreChosen}
-use Rattle.run_files.specs.inner.Searches.{AreDetectedMarks, AreFound, AreKnown, AreSearched, IsGoal, IsGoalOf, IsMet, IsSeenBy}
+use Rattle.run_files.specs.inner.Searches.{AreAdded, AreDetectedMarks, AreFound, AreKnown, AreSearched, IsGoal, IsGoalOf, IsMet, IsSeenBy}
 use Rattle.run_files.specs.inner.Spread.{marked_weight, spread, unmarked_weights}
 use Rattle.run_files.specs.inner.Verdicts.{IsVerdict, MayHave}
 use Rattle.run_files.proofs.CountLemmas.{asked_some, some_asked, weighed}
@@ -135,6 +135,15 @@ found_before n holds limit refutes times percent asked faults weights first more
   first_kept = λ class f at seen. found.first_kept class f at (subst (λ (ps : List Pattern). IsSeenBy n ps f) (sym behind) (seen_before n first more f seen));
   done = found.done;
 }
+
+-- what is chosen of what a search added to patterns
+pub found_added : (n : Netlist) (holds : Holds) (limit : ℕ) (refutes : Bool) (times : ℕ) (percent : Option ℕ) (a : AskedClasses) (first patterns : List Pattern) (verdicts : List Verdict)
+    (kept : List Pattern) (new : List Verdict) → length a.weights.items ≡ length a.faults.items → AreAdded n holds limit refutes percent a first patterns verdicts
+    → AreChosen n holds times a.faults.items patterns verdicts kept new → AreFound n holds limit refutes times percent a.count a.faults.items a.weights.items first kept new
+found_added n holds limit refutes times percent a first patterns verdicts kept new sized added done =
+    found_of n holds limit refutes times a.faults.items a.weights.items first added.more patterns added.marks added.others kept new sized added.are_marks added.known added.known_all
+    (λ class f at seen. subst (λ (ps : List Pattern). IsSeenBy n ps f) (sym added.behind) (seen_before n first added.more f seen))
+    (subst (λ (vs : List Verdict). AreChosen n holds times a.faults.items patterns vs kept new) added.spreads done) percent a.count added.goal added.goal_is added.done
 
 -- ---- of all classes
 

@@ -2,7 +2,7 @@
 //!
 //! Of a batch those are taken that are the last to detect several of the faults that are left. What only others detect is searched after all: cubes
 //! of tests are merged, and a pattern of many cubes detects more of it than one that was drawn.
-ghost use Rattle.std.specs.Prelude.{◌≡◌, ◌+◌, ◌*◌, ◌<◌, ◌≤◌, ◌^◌, ℕ, IfOk, length, map};
+ghost use Rattle.std.specs.Prelude.{◌≡◌, ◌+◌, ◌*◌, ◌≤◌, ◌^◌, ℕ, IfOk, length, map};
 ghost use Rattle.std.specs.List.{All};
 ghost use Rattle.statement.specs.declared.lines.Fault.{Fault as FaultOf};
 ghost use Rattle.statement.specs.Netlists.{Netlist as Equations};
@@ -11,8 +11,11 @@ ghost use Rattle.netlist.specs.Holds.{AreHoldsOf};
 ghost use Rattle.netlist.specs.Lines.{IsLineOf};
 ghost use Rattle.cubes.specs.Cubes.{IsCubeOf, IsPatternOf};
 ghost use Rattle.run_files.specs.inner.Open.{held_value, open_cube};
+ghost use Rattle.run_files.specs.inner.Plans.{AreFaultsOf, MayRun};
 
+use crate::asked::RunPlan;
 use cubes::{Cube, Pattern, fill};
+use evidence::Engine;
 use flat_netlist::number_of;
 use list_core::{Goal, kept};
 use netlist::{Core, Fault, Holds, NoMemory, Tri};
@@ -22,7 +25,7 @@ use rand_pcg::Lcg64Xsh32;
 use std::alloc::{AllocError, Global};
 use std::thread::Threads;
 use word_sim::Hit;
-use worker::Simulators;
+use worker::{Errand, Simulators};
 
 /// So many are drawn at once: they are simulated in one word.
 const BATCH: usize = 64;
@@ -147,9 +150,8 @@ fn numbered(alloc: Global, faults: &[Fault]) -> Result<Vec<(u32, Fault)>, AllocE
 }
 
 /// Of a batch the patterns that are taken, and the faults that they leave.
-fn draw_batch<N: Rng, R: Threads + Sync>(
-    rt: &R,
-    alloc: Global,
+fn draw_batch<N: Rng, E: Engine, G: Gate, R: Threads + Sync>(
+    errand: &Errand<'_, E, G, R>,
     simulators: &mut Simulators<'_>,
     cube: &Cube,
     left: &[(u32, Fault)],
@@ -162,8 +164,9 @@ fn draw_batch<N: Rng, R: Threads + Sync>(
     ensures lines { IfOk result (λ r. All (λ (g : ℕ × FaultOf). IsLineOf simulators.old g.1.line) r.1.items) }
     ensures simulators { simulators.new ≡ simulators.old }
 {
+    let alloc = errand.alloc;
     let drawn = drawn_batch(alloc, cube, rng)?;
-    let hits = simulators.hits(rt, alloc, &drawn, left)?;
+    let hits = simulators.hits(errand.rt, alloc, &drawn, left)?;
     let marks = worth_marks(alloc, &hits)?;
     let rest = left_after(alloc, left, &hits, &marks)?;
     let taken = kept(alloc, drawn, &marks)?;
@@ -203,15 +206,13 @@ fn is_last(before: usize, left: usize) -> bool {
 }
 
 /// Patterns of the cube that detect many of these faults, batch after batch, until one detects few, or enough are detected.
-fn draw_batches<N: Rng, G: Gate, R: Threads + Sync>(
-    rt: &R,
-    alloc: Global,
+fn draw_batches<N: Rng, E: Engine, G: Gate, R: Threads + Sync>(
+    errand: &Errand<'_, E, G, R>,
     simulators: &mut Simulators<'_>,
     cube: &Cube,
     faults: Vec<(u32, Fault)>,
     goal: Option<&Goal>,
     rng: &mut N,
-    stage: &G,
 ) -> Result<Vec<Pattern>, NoMemory>
     requires lines { All (λ (g : ℕ × FaultOf). IsLineOf simulators.old g.1.line) faults.items }
     requires cube { (holds : Held) × IsCubeOf simulators.old holds cube.now }
@@ -221,16 +222,16 @@ fn draw_batches<N: Rng, G: Gate, R: Threads + Sync>(
     let all = whole_weight(goal, &faults);
     let mut is_over = faults.is_empty();
     let mut left = faults;
-    let mut patterns = Vec::new(alloc);
+    let mut patterns = Vec::new(errand.alloc);
     for _batch in 0..MOST {
         if is_over || is_enough(goal, all, &left) {
             break;
         }
-        let (mut more, rest) = draw_batch(rt, alloc, simulators, cube, &left, rng)?;
+        let (mut more, rest) = draw_batch(errand, simulators, cube, &left, rng)?;
         patterns.append(&mut more)?;
         is_over = is_last(left.len(), rest.len());
         left = rest;
-        stage.at(
+        errand.stage.at(
             0,
             Stage::Published {
                 undetected: left.len() as u64,
@@ -241,35 +242,22 @@ fn draw_batches<N: Rng, G: Gate, R: Threads + Sync>(
 }
 
 /// Patterns that obey the held inputs and detect many of these faults.
-pub(crate) fn drawn_patterns<G: Gate, R: Threads + Sync>(
-    rt: &R,
-    alloc: Global,
-    core: &Core,
-    holds: &Holds,
+pub(crate) fn drawn_patterns<E: Engine, G: Gate, R: Threads + Sync>(
+    errand: &Errand<'_, E, G, R>,
+    plan: RunPlan,
     faults: &[Fault],
     goal: Option<&Goal>,
-    seed: u64,
-    workers: u32,
-    stage: &G,
 ) -> Result<Vec<Pattern>, NoMemory>
-    requires held { AreHoldsOf core.now holds.now }
-    requires lines { All (λ (f : FaultOf). IsLineOf core.now f.line) faults.now }
-    requires workers { 0 < workers }
-    ensures obey { IfOk result (λ v. All (IsPatternOf core.now holds.now) v.items) }
+    requires ready { MayRun errand.now.core.now errand.now.holds.now plan }
+    requires faults { AreFaultsOf errand.now.core.now faults.now }
+    ensures obey { IfOk result (λ v. All (IsPatternOf errand.now.core.now errand.now.holds.now) v.items) }
     ensures few { IfOk result (λ v. length v.items ≤ 2 ^ 17) }
 {
-    let cube = open_cube(alloc, core, holds)?;
+    let alloc = errand.alloc;
+    let core = errand.core;
+    let cube = open_cube(alloc, core, errand.holds)?;
     let left = numbered(alloc, faults)?;
-    let mut simulators = Simulators::new(alloc, core, workers)?;
-    let mut rng = Lcg64Xsh32::new(seed, STREAM);
-    draw_batches(
-        rt,
-        alloc,
-        &mut simulators,
-        &cube,
-        left,
-        goal,
-        &mut rng,
-        stage,
-    )
+    let mut simulators = Simulators::new(alloc, core, plan.workers)?;
+    let mut rng = Lcg64Xsh32::new(plan.seed, STREAM);
+    draw_batches(errand, &mut simulators, &cube, left, goal, &mut rng)
 }

@@ -1,27 +1,23 @@
 //! Patterns and verdicts of some faults, by workers.
 ghost use Rattle.std.specs.Prelude.{◌≡◌, ◌+◌, ◌<◌, ◌≤◌, IfOk, length};
 ghost use Rattle.std.specs.Option.{option_copied};
-ghost use Rattle.std.specs.List.{All};
 ghost use Rattle.plain_text.specs.Limits.{most_workers};
-ghost use Rattle.statement.specs.declared.lines.Fault.{Fault as FaultOf};
-ghost use Rattle.netlist.specs.Lines.{IsLineOf};
-ghost use Rattle.netlist.specs.Holds.{AreHoldsOf};
 ghost use Rattle.fault_universe.specs.Laws.{most_design_faults};
-ghost use Rattle.list_core.specs.Subjects.{HaveLines, class_count};
-ghost use Rattle.worker.specs.Working.{IsDone};
+ghost use Rattle.list_core.specs.Subjects.{class_count};
+ghost use Rattle.worker.specs.Working.{IsDone, MaySearch};
+ghost use Rattle.run_files.specs.inner.Plans.{AreFaultsOf, MayRun};
 ghost use Rattle.run_files.specs.inner.Searches.{AreKnown};
 
 use crate::asked::RunPlan;
 use cubes::Pattern;
 use evidence::Engine;
 use list_core::{About, FaultList, Goal, Verdict};
-use netlist::{Core, Fault, Holds, NoMemory};
+use netlist::{Fault, NoMemory};
 use outside::{Gate, Stage};
-use std::alloc::Global;
 use std::marker::Brand;
 use std::sync::Wait;
 use std::thread::Threads;
-use worker::run_all;
+use worker::{Errand, run_all};
 
 /// What is passed once the workers have ended.
 fn answered<J: About>(list: &FaultList<J>) -> Stage {
@@ -38,71 +34,44 @@ fn answered<J: About>(list: &FaultList<J>) -> Stage {
 
 /// The search under a name for what the list is about.
 fn search_named<J: About + Send + Sync, E: Engine + Sync, G: Gate + Sync, R: Threads + Wait + Sync>(
-    rt: &R,
-    alloc: Global,
-    core: &Core,
-    faults: &[Fault],
+    errand: &Errand<'_, E, G, R>,
     plan: RunPlan,
-    engine: &E,
-    stage: &G,
-    holds: &Holds,
+    faults: &[Fault],
     goal: Option<&Goal>,
 ) -> Result<(Vec<Pattern>, Vec<Verdict>), NoMemory>
-    requires core { core.now ≡ J.subject.netlist }
+    requires subject { MaySearch J.subject errand.now.core.now errand.now.holds.now E.refutes }
     requires faults { faults.now ≡ J.subject.faults }
     requires few { class_count J.subject ≤ most_design_faults }
-    requires limit { (plan.limit ≡ J.subject.limit) × (1 ≤ plan.limit) }
-    requires holds { (holds.now ≡ J.subject.holds) × AreHoldsOf core.now holds.now }
-    requires lines { HaveLines J.subject }
-    requires kinds { E.refutes ≡ J.subject.refutes }
+    requires limit { plan.limit ≡ J.subject.limit }
     requires workers { (0 < plan.workers) × (plan.workers ≤ most_workers) }
-    ensures known { IfOk result (λ r. AreKnown core.now holds.now plan.limit E.refutes faults.now r.0.items r.1.items) }
+    ensures known { IfOk result (λ r. AreKnown errand.now.core.now errand.now.holds.now plan.limit E.refutes faults.now r.0.items r.1.items) }
     ensures done { IfOk result (λ r. IsDone (option_copied goal.entry) r.1.items) }
     ensures few { IfOk result (λ r. length r.0.items ≤ length faults.now + length faults.now) }
 {
-    stage.at(
+    errand.stage.at(
         0,
         Stage::Begun {
             count: faults.len() as u64,
         },
     );
-    let list = FaultList::<J>::new(alloc, core, faults, plan.limit, holds)?;
-    let list = run_all(
-        rt,
-        alloc,
-        list,
-        core,
-        engine,
-        stage,
-        plan.workers,
-        plan.seed,
-        holds,
-        goal,
-    )?;
-    stage.at(0, answered(&list));
+    let list = FaultList::<J>::new(errand.alloc, errand.core, faults, plan.limit, errand.holds)?;
+    let list = run_all(errand, list, plan.workers, plan.seed, goal)?;
+    errand.stage.at(0, answered(&list));
     Ok(list.into_parts())
 }
 
 /// Patterns and verdicts for these faults, each a class of its own.
 pub(crate) fn search_faults<E: Engine + Sync, G: Gate + Sync, R: Threads + Wait + Sync>(
-    rt: &R,
-    alloc: Global,
-    core: &Core,
-    faults: &[Fault],
+    errand: &Errand<'_, E, G, R>,
     plan: RunPlan,
-    engine: &E,
-    stage: &G,
-    holds: &Holds,
+    faults: &[Fault],
     goal: Option<&Goal>,
 ) -> Result<(Vec<Pattern>, Vec<Verdict>), NoMemory>
-    requires few { length faults.now ≤ most_design_faults }
-    requires limit { 1 ≤ plan.limit }
-    requires held { AreHoldsOf core.now holds.now }
-    requires lines { All (λ (f : FaultOf). IsLineOf core.now f.line) faults.now }
-    requires workers { (0 < plan.workers) × (plan.workers ≤ most_workers) }
-    ensures known { IfOk result (λ r. AreKnown core.now holds.now plan.limit E.refutes faults.now r.0.items r.1.items) }
+    requires ready { MayRun errand.now.core.now errand.now.holds.now plan }
+    requires faults { AreFaultsOf errand.now.core.now faults.now }
+    ensures known { IfOk result (λ r. AreKnown errand.now.core.now errand.now.holds.now plan.limit E.refutes faults.now r.0.items r.1.items) }
     ensures done { IfOk result (λ r. IsDone (option_copied goal.entry) r.1.items) }
     ensures few { IfOk result (λ r. length r.0.items ≤ length faults.now + length faults.now) }
 {
-    search_named::<Brand, E, G, R>(rt, alloc, core, faults, plan, engine, stage, holds, goal)
+    search_named::<Brand, E, G, R>(errand, plan, faults, goal)
 }

@@ -2,16 +2,18 @@
 ghost use Rattle.std.specs.Prelude.{◌≡◌, ◌+◌, ◌<◌, ◌≤◌, ◌^◌, ℕ, IfOk, length, map};
 ghost use Rattle.std.specs.Option.{is_some};
 ghost use Rattle.std.specs.List.{All};
-ghost use Rattle.statement.specs.declared.lines.Fault.{Fault as FaultOf};
-ghost use Rattle.netlist.specs.Lines.{IsLineOf};
-ghost use Rattle.word_sim.specs.Words.{HasWidthsOf};
+ghost use Rattle.cubes.specs.Cubes.{IsPatternOf};
+ghost use Rattle.run_files.specs.inner.Plans.{AreFaultsOf, MayRun};
 ghost use Rattle.run_files.specs.inner.Searches.{AreDetectedMarks};
 
+use crate::asked::RunPlan;
 use cubes::Pattern;
-use netlist::{Core, Fault, NoMemory, Point};
+use evidence::Engine;
+use netlist::{Fault, NoMemory, Point};
+use outside::Gate;
 use std::alloc::{AllocError, Global};
 use std::thread::Threads;
-use worker::last_tells_beside;
+use worker::{Errand, last_tells_beside};
 
 /// Marks the faults of which something is told.
 fn told_marks(alloc: Global, told: &[Option<(u32, Point)>]) -> Result<Vec<bool>, AllocError>
@@ -25,23 +27,29 @@ fn told_marks(alloc: Global, told: &[Option<(u32, Point)>]) -> Result<Vec<bool>,
 }
 
 /// Marks the faults that some pattern detects. Where there are no patterns nothing is simulated.
-pub(crate) fn detected_marks<R: Threads + Sync>(
-    rt: &R,
-    alloc: Global,
-    core: &Core,
+pub(crate) fn detected_marks<E: Engine, G: Gate, R: Threads + Sync>(
+    errand: &Errand<'_, E, G, R>,
+    plan: RunPlan,
     faults: &[Fault],
     patterns: &[Pattern],
-    workers: u32,
 ) -> Result<Vec<bool>, NoMemory>
-    requires wide { All (HasWidthsOf core.now) patterns.now }
-    requires lines { All (λ (f : FaultOf). IsLineOf core.now f.line) faults.now }
+    requires ready { MayRun errand.now.core.now errand.now.holds.now plan }
+    requires faults { AreFaultsOf errand.now.core.now faults.now }
+    requires obey { All (IsPatternOf errand.now.core.now errand.now.holds.now) patterns.now }
     requires few { length patterns.now + 64 ≤ 2 ^ 32 }
-    requires workers { 0 < workers }
-    ensures { IfOk result (λ v. AreDetectedMarks core.now patterns.now faults.now v.items) }
+    ensures { IfOk result (λ v. AreDetectedMarks errand.now.core.now patterns.now faults.now v.items) }
 {
+    let alloc = errand.alloc;
     if patterns.is_empty() {
         return Ok(vec![in alloc; false; faults.len()]?);
     }
-    let told = last_tells_beside(rt, alloc, core, faults, patterns, workers)?;
+    let told = last_tells_beside(
+        errand.rt,
+        alloc,
+        errand.core,
+        faults,
+        patterns,
+        plan.workers,
+    )?;
     Ok(told_marks(alloc, &told)?)
 }

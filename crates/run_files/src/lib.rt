@@ -11,6 +11,7 @@
 #![tactic(auto)]
 
 mod asked;
+mod case;
 mod choosing;
 mod compacting;
 mod differing;

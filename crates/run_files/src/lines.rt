@@ -1,23 +1,24 @@
 //! A line for each fault, by its class's verdict, where it is asked for.
-ghost use Rattle.std.specs.Prelude.{◌≡◌, ◌<◌, ⊤, IfOk, length, map, slice_index};
+ghost use Rattle.std.specs.Prelude.{◌≡◌, ◌<◌, List, ℕ, IfOk, length, map};
 ghost use Rattle.std.specs.List.{All};
 ghost use Rattle.statement.specs.Netlists.{signals};
 ghost use Rattle.netlist.specs.Lines.{IsLineOf, signal_of};
-ghost use Rattle.statement.specs.Runs.{output_name};
-ghost use Rattle.scan_insert.specs.Scanned.{AreChainsOf, scanned_of};
+ghost use Rattle.scan_insert.specs.Scanned.{AreChainsOf};
 ghost use Rattle.statement.specs.Faults.{universe_of};
-ghost use Rattle.report.specs.Reports.{IsOutcome, IsBenchWord};
-ghost use Rattle.run_files.specs.inner.Outcomes.{AreLines, IsAdded, IsOutcomeOf, verdict_said};
+ghost use Rattle.report.specs.Reports.{IsOutcome};
+ghost use Rattle.list_core.specs.declared.verdicts.Verdict.{Verdict as VerdictOf};
+ghost use Rattle.run_files.specs.inner.Cases.{IsCase};
+ghost use Rattle.run_files.specs.inner.Outcomes.{AreLines, ArePins, IsAdded, IsOutcomeOf, verdict_said};
 ghost use Rattle.run_files.specs.inner.Verdicts.{IsInside};
 
-use fault_collapse::Classes;
-use fault_universe::{FaultSet, faults_have_lines, faults_have_signals, push_text};
+use crate::case::Case;
+use fault_universe::{faults_have_lines, faults_have_signals, push_text};
 use list_core::Verdict;
 use netlist::{Fault, NameTable, Netlist, NoMemory};
 use report::{FaultLines, Outcome};
 use run_report::sight_of;
 use scan_insert::Chains;
-use std::alloc::{AllocError, Global};
+use std::alloc::AllocError;
 
 /// What a fault has in its line behind its name.
 #[derive(Clone, Copy)]
@@ -35,8 +36,7 @@ fn said_of<'a>(
     verdict: &Verdict,
 ) -> Said<'a>
     requires chains { AreChainsOf netlist.now chains.now }
-    requires pins { pins.now ≡ map (output_name (scanned_of netlist.now chains.now)) (scanned_of netlist.now chains.now).outputs }
-    requires words { All IsBenchWord pins.now }
+    requires pins { ArePins netlist.now chains.now pins.now }
     requires verdict { IsInside netlist.now verdict.now }
     ensures outcome { IsOutcomeOf netlist.now chains.now (verdict_said asked verdict.now) result.outcome result.pin.now }
     ensures sound { IsOutcome result.outcome result.pin.now }
@@ -70,94 +70,63 @@ fn said_of<'a>(
     }
 }
 
-/// Adds the line of a fault whose class has this verdict.
+/// Adds the line of a fault of which this is said.
 fn add_line(
     lines: FaultLines,
     text: &mut Vec<u8>,
     netlist: &Netlist,
-    chains: &Chains,
-    pins: &NameTable,
     fault: Fault,
-    asked: bool,
-    verdict: &Verdict,
+    said: Said<'_>,
 ) -> Result<FaultLines, AllocError>
-    requires chains { AreChainsOf netlist.now chains.now }
-    requires pins { pins.now ≡ map (output_name (scanned_of netlist.now chains.now)) (scanned_of netlist.now chains.now).outputs }
-    requires words { All IsBenchWord pins.now }
-    requires verdict { IsInside netlist.now verdict.now }
     requires line { IsLineOf netlist.now fault.line }
     requires signal { signal_of fault.line < length (signals netlist.now) }
-    ensures { IfOk result (IsAdded netlist.now chains.now fault (verdict_said asked verdict.now) lines) }
+    requires sound { IsOutcome said.outcome said.pin.now }
+    ensures { IfOk result (λ new. (chains : List (List ℕ)) (v : VerdictOf) → IsOutcomeOf netlist.now chains v said.outcome said.pin.now → IsAdded netlist.now chains fault v lines new) }
 {
     netlist.sound();
     text.clear();
     push_text(text, netlist, fault)?;
-    let said = said_of(netlist, chains, pins, asked, verdict);
     lines.push(text.as_slice(), said.outcome, said.pin)
 }
 
 fn lines_within(
-    alloc: Global,
-    netlist: &Netlist,
-    chains: &Chains,
+    case: &Case<'_>,
     pins: &NameTable,
-    faults: &FaultSet,
-    classes: &Classes,
-    asked: &[bool],
     verdicts: &[Verdict],
 ) -> Result<FaultLines, AllocError>
-    requires chains { AreChainsOf netlist.now chains.now }
-    requires pins { pins.now ≡ map (output_name (scanned_of netlist.now chains.now)) (scanned_of netlist.now chains.now).outputs }
-    requires words { All IsBenchWord pins.now }
-    requires universe { faults.now ≡ universe_of netlist.now }
-    requires size { (length classes.now.numbers ≡ length (universe_of netlist.now)) × (length asked.now ≡ length (universe_of netlist.now)) }
-    requires within { All (λ class. class < length verdicts.now) classes.now.numbers }
-    requires inside { All (IsInside netlist.now) verdicts.now }
-    ensures { IfOk result (λ lines. AreLines netlist.now chains.now classes.now.numbers asked.now verdicts.now (length (universe_of netlist.now)) lines) }
+    requires case { IsCase case.now }
+    requires pins { ArePins case.now.netlist.now case.now.chains.now pins.now }
+    requires within { All (λ class. class < length verdicts.now) case.now.subject.now.classes.numbers }
+    requires inside { All (IsInside case.now.netlist.now) verdicts.now }
+    ensures { IfOk result (λ lines. AreLines case.now.netlist.now case.now.chains.now case.now.subject.now.classes.numbers case.now.asked.now verdicts.now (length (universe_of case.now.netlist.now)) lines) }
 {
+    let netlist = case.netlist;
+    let faults = &case.subject.faults;
+    let classes = &case.subject.classes;
     netlist.sound();
     faults_have_signals();
     faults_have_lines();
-    let mut text = Vec::new(alloc);
-    let mut lines = FaultLines::new(alloc);
+    let mut text = Vec::new(case.alloc);
+    let mut lines = FaultLines::new(case.alloc);
     for i in 0..faults.len() {
         let verdict = &verdicts[classes.class_of(i) as usize];
-        lines = add_line(
-            lines,
-            &mut text,
-            netlist,
-            chains,
-            pins,
-            faults.fault(i),
-            asked[i as usize],
-            verdict,
-        )?;
+        let said = said_of(netlist, case.chains, pins, case.asked[i as usize], verdict);
+        lines = add_line(lines, &mut text, netlist, faults.fault(i), said)?;
     }
     Ok(lines)
 }
 
 /// The lines of all faults, in order, where these are asked for. `pins` has the names of the pins at the scanned netlist's outputs.
 pub(crate) fn lines_of(
-    alloc: Global,
-    netlist: &Netlist,
-    chains: &Chains,
+    case: &Case<'_>,
     pins: &NameTable,
-    faults: &FaultSet,
-    classes: &Classes,
-    asked: &[bool],
     verdicts: &[Verdict],
 ) -> Result<FaultLines, NoMemory>
-    requires chains { AreChainsOf netlist.now chains.now }
-    requires pins { pins.now ≡ map (output_name (scanned_of netlist.now chains.now)) (scanned_of netlist.now chains.now).outputs }
-    requires words { All IsBenchWord pins.now }
-    requires universe { faults.now ≡ universe_of netlist.now }
-    requires size { (length classes.now.numbers ≡ length (universe_of netlist.now)) × (length asked.now ≡ length (universe_of netlist.now)) }
-    requires within { All (λ class. class < length verdicts.now) classes.now.numbers }
-    requires inside { All (IsInside netlist.now) verdicts.now }
-    ensures { IfOk result (λ lines. AreLines netlist.now chains.now classes.now.numbers asked.now verdicts.now (length (universe_of netlist.now)) lines) }
+    requires case { IsCase case.now }
+    requires pins { ArePins case.now.netlist.now case.now.chains.now pins.now }
+    requires within { All (λ class. class < length verdicts.now) case.now.subject.now.classes.numbers }
+    requires inside { All (IsInside case.now.netlist.now) verdicts.now }
+    ensures { IfOk result (λ lines. AreLines case.now.netlist.now case.now.chains.now case.now.subject.now.classes.numbers case.now.asked.now verdicts.now (length (universe_of case.now.netlist.now)) lines) }
 {
-    lines_within(
-        alloc, netlist, chains, pins, faults, classes, asked, verdicts,
-    )
-    .map_err(|_| NoMemory)
+    lines_within(case, pins, verdicts).map_err(|_| NoMemory)
 }

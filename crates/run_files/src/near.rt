@@ -2,27 +2,29 @@
 //!
 //! What a fault's test doesn't need may be turned over, so that many of these detect it too, where one search more comes to the test that is known.
 //! (Clauses that forbid what is known would leave none out, and take a search for each pattern.)
-ghost use Rattle.std.specs.Prelude.{◌≡◌, ◌+◌, ◌<◌, ◌≤◌, ◌^◌, IfOk, length};
+ghost use Rattle.std.specs.Prelude.{◌≡◌, ◌+◌, ◌≤◌, ◌^◌, IfOk, length};
 ghost use Rattle.std.specs.List.{All};
 ghost use Rattle.statement.specs.declared.lines.Fault.{Fault as FaultOf};
 ghost use Rattle.cubes.specs.Cubes.{IsPatternOf};
 ghost use Rattle.netlist.specs.Lines.{IsLineOf};
 ghost use Rattle.netlist.specs.Holds.{AreHoldsOf};
+ghost use Rattle.run_files.specs.inner.Plans.{AreFaultsOf, MayRun};
 
 use crate::asked::RunPlan;
-use crate::repeating::settled_marks;
+use crate::repeating::unsettled;
 use cubes::Pattern;
-use detections::{LastFew, last_few_of, times_of};
+use detections::{LastFew, last_few_of};
+use evidence::Engine;
 use flat_netlist::number_of;
 use list_core::kept;
 use netlist::{Core, Fault, Holds, NoMemory, Point};
+use outside::Gate;
 use rand_core::Rng;
 use rand_pcg::Lcg64Xsh32;
 use std::alloc::{AllocError, Global};
 use std::thread::Threads;
 use stil_patterns::are_patterns;
-use word_sim::unmarked;
-use worker::last_tells_beside;
+use worker::{Errand, last_tells_beside};
 
 /// So many are tried for a fault: they are simulated at once.
 const TRIED: u32 = 64;
@@ -30,6 +32,16 @@ const TRIED: u32 = 64;
 /// The stream of the words by which places are drawn, apart from those of workers, one by the number of each and one more, and of the rounds that make
 /// patterns fewer.
 const STREAM: u64 = (1 << 32) + 1;
+
+/// A netlist with its held inputs, the places of its patterns that may be turned over, and how many patterns are kept for a fault.
+#[derive(Clone, Copy)]
+struct Turning<'a> {
+    alloc: Global,
+    core: &'a Core,
+    holds: &'a Holds,
+    free: &'a [u32],
+    most: u32,
+}
 
 /// Two places of a pattern, or one twice. The inputs' stand before the cells'.
 #[derive(Clone, Copy)]
@@ -117,100 +129,93 @@ fn near_patterns<N: Rng>(
 
 /// Those near to a pattern that are the last so many to detect the fault.
 fn near_tests<N: Rng>(
-    alloc: Global,
-    core: &Core,
-    holds: &Holds,
+    turning: &Turning<'_>,
     fault: &Fault,
     pattern: &Pattern,
-    most: u32,
-    free: &[u32],
     rng: &mut N,
 ) -> Result<Vec<Pattern>, NoMemory>
-    requires held { AreHoldsOf core.now holds.now }
-    requires line { IsLineOf core.now fault.now.line }
-    ensures obey { IfOk result (λ v. All (IsPatternOf core.now holds.now) v.items) }
+    requires held { AreHoldsOf turning.now.core.now turning.now.holds.now }
+    requires line { IsLineOf turning.now.core.now fault.now.line }
+    ensures obey { IfOk result (λ v. All (IsPatternOf turning.now.core.now turning.now.holds.now) v.items) }
 {
-    let near = near_patterns(alloc, pattern, free, rng)?;
-    if !are_patterns(core.netlist(), holds, &near) {
+    let alloc = turning.alloc;
+    let core = turning.core;
+    let near = near_patterns(alloc, pattern, turning.free, rng)?;
+    if !are_patterns(core.netlist(), turning.holds, &near) {
         return Ok(Vec::new(alloc));
     }
-    let LastFew { needed, .. } = last_few_of(alloc, core, &[*fault], &near, most)?;
+    let LastFew { needed, .. } = last_few_of(alloc, core, &[*fault], &near, turning.most)?;
     Ok(kept(alloc, near, &needed)?)
 }
 
 /// Those near to the last pattern that detects the fault, if one does.
 fn near_last<N: Rng>(
-    alloc: Global,
-    core: &Core,
-    holds: &Holds,
+    turning: &Turning<'_>,
     fault: &Fault,
-    last: Option<(u32, Point)>,
-    patterns: &[Pattern],
-    most: u32,
-    free: &[u32],
+    last: Option<&Pattern>,
     rng: &mut N,
 ) -> Result<Vec<Pattern>, NoMemory>
-    requires held { AreHoldsOf core.now holds.now }
-    requires line { IsLineOf core.now fault.now.line }
-    ensures obey { IfOk result (λ v. All (IsPatternOf core.now holds.now) v.items) }
+    requires held { AreHoldsOf turning.now.core.now turning.now.holds.now }
+    requires line { IsLineOf turning.now.core.now fault.now.line }
+    ensures obey { IfOk result (λ v. All (IsPatternOf turning.now.core.now turning.now.holds.now) v.items) }
 {
-    let pattern = last.and_then(|(place, _)| patterns.get(place as usize));
-    match pattern {
-        Some(pattern) => near_tests(alloc, core, holds, fault, pattern, most, free, rng),
-        None => Ok(Vec::new(alloc)),
+    match last {
+        Some(pattern) => near_tests(turning, fault, pattern, rng),
+        None => Ok(Vec::new(turning.alloc)),
     }
+}
+
+/// The pattern that is told, if one is.
+fn told_pattern(patterns: &[Pattern], told: Option<(u32, Point)>) -> Option<&Pattern> {
+    told.and_then(|(place, _)| patterns.get(place as usize))
 }
 
 /// Those near to the last pattern that detects each of these faults.
 fn all_near_tests<N: Rng>(
-    alloc: Global,
-    core: &Core,
-    holds: &Holds,
+    turning: &Turning<'_>,
     faults: &[Fault],
     last: &[Option<(u32, Point)>],
     patterns: &[Pattern],
-    most: u32,
     rng: &mut N,
 ) -> Result<Vec<Pattern>, NoMemory>
-    requires held { AreHoldsOf core.now holds.now }
-    requires lines { All (λ (f : FaultOf). IsLineOf core.now f.line) faults.now }
+    requires held { AreHoldsOf turning.now.core.now turning.now.holds.now }
+    requires lines { All (λ (f : FaultOf). IsLineOf turning.now.core.now f.line) faults.now }
     requires size { length last.now ≡ length faults.now }
-    ensures obey { IfOk result (λ v. All (IsPatternOf core.now holds.now) v.items) }
+    ensures obey { IfOk result (λ v. All (IsPatternOf turning.now.core.now turning.now.holds.now) v.items) }
 {
-    let free = free_places(alloc, core, holds)?;
-    let mut all = Vec::new(alloc);
+    let mut all = Vec::new(turning.alloc);
     for k in 0..faults.len() {
-        let mut near = near_last(
-            alloc, core, holds, &faults[k], last[k], patterns, most, &free, rng,
-        )?;
+        let mut near = near_last(turning, &faults[k], told_pattern(patterns, last[k]), rng)?;
         all.append(&mut near)?;
     }
     Ok(all)
 }
 
 /// What is near to patterns that detect a fault, of the faults that some of these detect, but too few.
-pub(crate) fn found_near<R: Threads + Sync>(
-    rt: &R,
-    alloc: Global,
-    core: &Core,
-    holds: &Holds,
+pub(crate) fn found_near<E: Engine, G: Gate, R: Threads + Sync>(
+    errand: &Errand<'_, E, G, R>,
+    plan: RunPlan,
     faults: &[Fault],
     patterns: &[Pattern],
-    plan: RunPlan,
 ) -> Result<Vec<Pattern>, NoMemory>
-    requires held { AreHoldsOf core.now holds.now }
-    requires lines { All (λ (f : FaultOf). IsLineOf core.now f.line) faults.now }
-    requires obey { All (IsPatternOf core.now holds.now) patterns.now }
+    requires ready { MayRun errand.now.core.now errand.now.holds.now plan }
+    requires faults { AreFaultsOf errand.now.core.now faults.now }
+    requires obey { All (IsPatternOf errand.now.core.now errand.now.holds.now) patterns.now }
     requires small { length patterns.now + 64 ≤ 2 ^ 32 }
-    requires workers { 0 < plan.workers }
-    ensures obey { IfOk result (λ v. All (IsPatternOf core.now holds.now) v.items) }
+    ensures obey { IfOk result (λ v. All (IsPatternOf errand.now.core.now errand.now.holds.now) v.items) }
 {
-    let times = times_of(alloc, core, faults, patterns, plan.times)?;
-    let settled = settled_marks(alloc, &times, plan.times)?;
-    let left = unmarked(alloc, faults, &settled)?;
-    let last = last_tells_beside(rt, alloc, core, &left, patterns, plan.workers)?;
+    let alloc = errand.alloc;
+    let core = errand.core;
+    let left = unsettled(alloc, core, faults, patterns, plan.times)?;
+    let last = last_tells_beside(errand.rt, alloc, core, &left, patterns, plan.workers)?;
+    let free = free_places(alloc, core, errand.holds)?;
     let mut rng = Lcg64Xsh32::new(plan.seed, STREAM);
-    all_near_tests(
-        alloc, core, holds, &left, &last, patterns, plan.times, &mut rng,
-    )
+    let turning = Turning {
+        alloc,
+        core,
+        holds: errand.holds,
+        free: &free,
+        most: plan.times,
+    };
+    all_near_tests(&turning, &left, &last, patterns, &mut rng)
 }

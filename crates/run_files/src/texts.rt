@@ -9,9 +9,11 @@ ghost use Rattle.netlist.specs.Holds.{AreHoldsOf};
 ghost use Rattle.scan_insert.specs.Scanned.{AreChainsOf};
 ghost use Rattle.evidence.specs.declared.kinds.Evidence.{Evidence};
 ghost use Rattle.certificate.specs.Certificates.{HasSmallNumbers, IsNamed, certificate_text};
+ghost use Rattle.run_files.specs.inner.Cases.{AreFoundOf, IsCase};
 ghost use Rattle.run_files.specs.inner.Verdicts.{leaves_of};
 ghost use Rattle.run_files.specs.inner.Written.{IsTestText};
 
+use crate::case::Case;
 use crate::leaves::leaves_of;
 use bench_text::write;
 use certificate::write_evidence;
@@ -86,27 +88,25 @@ fn text_of_leaves(
     write_evidence(alloc, core, leaves.as_slice())
 }
 
-/// The texts of patterns and verdicts, one for each representative.
-pub(crate) fn test_texts(
-    alloc: Global,
-    core: &Core,
-    chains: &Chains,
-    holds: &Holds,
-    representatives: &[Fault],
-    found: Finished,
-) -> Result<TestTexts, NoMemory>
-    requires design { IsDesign core.now }
-    requires held { AreHoldsOf core.now holds.now }
-    requires chains { AreChainsOf core.now chains.now }
-    requires obey { All (IsPatternOf core.now holds.now) found.patterns.items }
-    requires size { length found.verdicts.items ≤ length representatives.now }
-    requires named { All (IsNamed core.now) (leaves_of representatives.now found.verdicts.items) }
-    ensures stil { IfOk result (λ texts. IsTestText core.now holds.now chains.now found.patterns.items texts.stil.items) }
-    ensures certificate { IfOk result (λ texts. texts.certificate.items ≡ certificate_text core.now (leaves_of representatives.now found.verdicts.items)) }
-    ensures within { IfOk result (λ texts. All (λ (p : Fault × Evidence). HasSmallNumbers p.1) (leaves_of representatives.now found.verdicts.items)) }
+/// The texts of what was found.
+pub(crate) fn test_texts(case: &Case<'_>, found: Finished) -> Result<TestTexts, NoMemory>
+    requires case { IsCase case.now }
+    requires found { AreFoundOf case.now found }
+    requires named { All (IsNamed case.now.netlist.now) (leaves_of case.now.subject.now.classes.representatives found.verdicts.items) }
+    ensures stil { IfOk result (λ texts. IsTestText case.now.netlist.now case.now.holds.now case.now.chains.now found.patterns.items texts.stil.items) }
+    ensures certificate { IfOk result (λ texts. texts.certificate.items ≡ certificate_text case.now.netlist.now (leaves_of case.now.subject.now.classes.representatives found.verdicts.items)) }
+    ensures within { IfOk result (λ texts. All (λ (p : Fault × Evidence). HasSmallNumbers p.1) (leaves_of case.now.subject.now.classes.representatives found.verdicts.items)) }
 {
+    let alloc = case.alloc;
     let Finished { patterns, verdicts } = found;
-    let stil = stil_text(alloc, core, chains, patterns.as_slice(), holds)?;
-    let certificate = text_of_leaves(alloc, core, representatives, verdicts)?;
+    let stil = stil_text(
+        alloc,
+        case.core,
+        case.chains,
+        patterns.as_slice(),
+        case.holds,
+    )?;
+    let representatives = case.subject.classes.representatives();
+    let certificate = text_of_leaves(alloc, case.core, representatives, verdicts)?;
     Ok(TestTexts { stil, certificate })
 }

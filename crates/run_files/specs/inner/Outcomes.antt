@@ -1,6 +1,6 @@
 -- What is said of a fault by its class's verdict.
-use Rattle.std.specs.Prelude.{ℕ, ◌≡◌, ◌<◌, Bool, false, cond, List, [], ◌∷◌, ◌++◌, length, slice_index, slice_index_or, Some}
-use Rattle.std.specs.List.{slice_get}
+use Rattle.std.specs.Prelude.{ℕ, ◌≡◌, ◌<◌, Bool, false, cond, List, [], ◌∷◌, ◌++◌, length, map, slice_index, slice_index_or, Some}
+use Rattle.std.specs.List.{All, slice_get}
 use Rattle.statement.specs.declared.lines.Fault.{Fault}
 use Rattle.statement.specs.Netlists.{Netlist}
 use Rattle.statement.specs.Faults.{fault_text, universe_of}
@@ -9,9 +9,16 @@ use Rattle.list_core.specs.declared.verdicts.Verdict.TheVariants as verdict
 use Rattle.list_core.specs.Verdicts.{verdict_at}
 use Rattle.statement.specs.declared.outcomes.Outcome.{Outcome}
 use Rattle.statement.specs.declared.outcomes.Outcome.TheVariants as outcome
-use Rattle.report.specs.Reports.{IsLine}
+use Rattle.report.specs.Reports.{IsBenchWord, IsLine}
+use Rattle.scan_insert.specs.Scanned.{scanned_of}
 use Rattle.statement.specs.Reports.{Line}
+use Rattle.statement.specs.Runs.{output_name}
 use Rattle.run_report.specs.Outcomes.{IsSeenAt}
+
+-- the names of the pins at the scanned netlist's outputs
+pub record ArePins (n : Netlist) (chains : List (List ℕ)) (pins : List (List ℕ)) : Type 0 where
+  pub are : pins ≡ map (output_name (scanned_of n chains)) (scanned_of n chains).outputs
+  pub words : All IsBenchWord pins
 
 -- The pattern's place, and where the tester sees the point; or that no pattern detects it, by evidence without or with an open end; or nothing.
 abbrev pub IsOutcomeOf : Netlist → List (List ℕ) → Verdict → Outcome → List ℕ → Type 0

@@ -1,5 +1,5 @@
 -- What a search finds.
-use Rattle.std.specs.Prelude.{ℕ, ◌≡◌, ◌-◌, ◌*◌, ◌<◌, ◌≤◌, ◌^◌, ◌⊎◌, ◌↔◌, ⊤, Bool, true, false, List, length, Option, Some, None, slice_index_or}
+use Rattle.std.specs.Prelude.{ℕ, ◌≡◌, ◌-◌, ◌*◌, ◌<◌, ◌≤◌, ◌^◌, ◌⊎◌, ◌↔◌, ◌++◌, ◌+◌, ⊤, Bool, true, false, List, length, Option, Some, None, slice_index_or}
 use Rattle.std.specs.Int.{div_ceil}
 use Rattle.std.specs.List.{All, slice_get}
 use Rattle.statement.specs.declared.lines.Fault.{Fault}
@@ -10,17 +10,21 @@ use Rattle.redundancy_cert.specs.Trees.{closed_count, open_count}
 use Rattle.redundancy_cert.specs.Fits.{Fits}
 use Rattle.evidence.specs.Evidence.{MayBe, Shows, open_ends}
 use Rattle.fault_collapse.specs.Numbers.{Classes}
+use Rattle.word_sim.specs.Never.{unmarked}
 use Rattle.list_core.specs.Enough.{detected_weight}
 use Rattle.list_core.specs.declared.goals.Goal.{Goal}
 use Rattle.list_core.specs.declared.verdicts.Verdict.{Verdict}
 use Rattle.list_core.specs.declared.verdicts.Verdict.TheVariants.{Open, Detected, Redundant, Aborted}
 use Rattle.list_core.specs.Verdicts.{is_open, one_if_class_detected, verdict_at}
-use Rattle.worker.specs.Working.{NoneOpen}
+use Rattle.worker.specs.Working.{IsDone, NoneOpen}
 pub use Rattle.fewer_patterns.specs.Fewer.{IsSeenBy}
 use Rattle.run_files.specs.Runs.{count_true}
+use Rattle.run_files.specs.declared.asked.AskedClasses.{AskedClasses}
+use Rattle.run_files.specs.declared.searching.Left.{Left}
 use Rattle.run_files.specs.inner.Often.{AreNeeded}
 use Rattle.run_files.specs.inner.Classes.{IsAskedClass, detected_in}
-use Rattle.run_files.specs.inner.Spread.{marked_weight, unmarked_weights}
+use Rattle.run_files.specs.inner.Plans.{AreFaultsOf}
+use Rattle.run_files.specs.inner.Spread.{marked_weight, spread, unmarked_weights}
 use Rattle.run_files.specs.inner.Verdicts.{AreVerdicts, MayHave}
 
 -- The verdict before compaction is true of the fault: some pattern detects it, wherever it stands by now; or there is evidence.
@@ -58,7 +62,29 @@ abbrev pub IsMet : Option ℕ → ℕ → ℕ → Type 0
 IsMet None asked detected = ⊥
 IsMet (Some percent) asked detected = percent * asked ≤ 100 * detected
 
+-- what patterns leave of the classes that are asked for: marks of those that they detect, the others' faults, and what is enough of these
+pub record IsLeft (n : Netlist) (percent : Option ℕ) (a : AskedClasses) (patterns : List Pattern) (l : Left) : Type 0 where
+  pub marks : AreDetectedMarks n patterns a.faults.items l.found.items
+  pub exactly : l.faults.items ≡ unmarked l.found.items a.faults.items
+  pub faults : AreFaultsOf n l.faults.items
+  pub goal : IsGoalOf percent a.count a.weights.items l.found.items l.goal
+
 -- ---- what is found
+
+-- Before any pattern is left out: what a search adds to patterns that come first. The classes that these detect weren't searched, and are Open.
+pub record AreAdded (n : Netlist) (holds : Holds) (limit : ℕ) (refutes : Bool) (percent : Option ℕ) (a : AskedClasses) (first patterns : List Pattern) (verdicts : List Verdict) : Type 0 where
+  pub marks : List Bool
+  pub more : List Pattern
+  pub others : List Verdict
+  pub goal : Option Goal
+  pub are_marks : AreDetectedMarks n first a.faults.items marks
+  pub known : AreKnown n holds limit refutes (unmarked marks a.faults.items) more others
+  pub known_all : AreKnown n holds limit refutes a.faults.items patterns (spread marks others)
+  pub goal_is : IsGoalOf percent a.count a.weights.items marks goal
+  pub done : IsDone goal others
+  pub behind : patterns ≡ first ++ more
+  pub spreads : verdicts ≡ spread marks others
+  pub few : length patterns + 64 ≤ 2 ^ 32
 
 -- of faults that are asked for, each with the weight of its class
 pub record AreFound (n : Netlist) (holds : Holds) (limit : ℕ) (refutes : Bool) (times : ℕ) (percent : Option ℕ) (asked : ℕ) (faults : List Fault) (weights : List ℕ) (first : List Pattern)

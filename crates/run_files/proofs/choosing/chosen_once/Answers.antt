@@ -34,24 +34,24 @@ left_out n holds limit refutes faults left given new verdicts marks sound law kn
 pub unmarked-requires : goal.unmarked-requires
 unmarked-requires g c =
     let marks = c.deref-2.ensures.value ∙ (c.in_ok-redundant.ensures ∙ ap (λ (vs : List Verdict). map is_redundant vs) c.deref.ensures.value) in
-    record { size = ap length marks ∙ (length-map c.args.verdicts.items is_redundant ∙ c.requires.known.count) }
+    record { size = ap length marks ∙ (length-map c.args.found.verdicts.items is_redundant ∙ c.requires.known.count) }
 
 pub fewer-requires-clause-lines : goal.fewer-requires-clause-lines
 fewer-requires-clause-lines g c κs within =
-    let P : List Fault → Type 0 = λ fs. All (λ (f : Fault). IsLineOf c.args.core.now f.line) fs in
-    subst P (sym c.deref-3.ensures.value) (c.in_ok-left.ensures.lines c.args.core.now c.requires.lines)
+    let P : List Fault → Type 0 = λ fs. All (λ (f : Fault). IsLineOf c.args.errand.now.core.now f.line) fs in
+    subst P (sym c.deref-3.ensures.value) (c.in_ok-left.ensures.lines c.args.errand.now.core.now c.requires.faults.lines)
 
 pub compact_told-requires : goal.compact_told-requires
 compact_told-requires g c =
-    let n = c.args.core.now in
+    let n = c.args.errand.now.core.now in
     let faults = c.args.faults.now in
-    let verdicts = c.args.verdicts.items in
+    let verdicts = c.args.found.verdicts.items in
     let left = c.deref-3.result.now in
     let marks = c.deref-2.ensures.value ∙ (c.in_ok-redundant.ensures ∙ ap (λ (vs : List Verdict). map is_redundant vs) c.deref.ensures.value) in
     let same : c.deref-4.result.now ≡ c.deref-2.result.now = c.deref-4.ensures.value ∙ sym c.deref-2.ensures.value in
     let rest = c.deref-3.ensures.value ∙ (c.in_ok-left.ensures.exactly ∙ ap (λ (ms : List Bool). unmarked ms faults) (sym same)) in
     let new = c.in_ok-told.told.patterns.items in
-    let both = left_out n c.args.holds.now c.args.plan.limit g.E.Engine.refutes faults left c.args.patterns.items new verdicts c.deref-4.result.now (subst IsSound c.netlist.ensures c.sound.ensures)
+    let both = left_out n c.args.errand.now.holds.now c.args.plan.limit g.E.Engine.refutes faults left c.args.found.patterns.items new verdicts c.deref-4.result.now (subst IsSound c.netlist.ensures c.sound.ensures)
     c.shown_is_redundant.ensures c.requires.known (same ∙ marks) rest c.in_ok-told.ensures.fewer in
     record {
       count = c.requires.known.count;
@@ -62,12 +62,12 @@ compact_told-requires g c =
 
 pub returns : goal.returns
 returns g c =
-    let n = c.args.core.now in
-    let holds = c.args.holds.now in
+    let n = c.args.errand.now.core.now in
+    let holds = c.args.errand.now.holds.now in
     let faults = c.args.faults.now in
-    let given = c.args.patterns.items in
+    let given = c.args.found.patterns.items in
     let fewer = c.in_ok-told.told.patterns.items in
-    let verdicts = c.args.verdicts.items in
+    let verdicts = c.args.found.verdicts.items in
     let marks = c.deref-2.ensures.value ∙ (c.in_ok-redundant.ensures ∙ ap (λ (vs : List Verdict). map is_redundant vs) c.deref.ensures.value) in
     let rest = c.deref-3.ensures.value ∙ c.in_ok-left.ensures.exactly in
     let both = left_out n holds c.args.plan.limit g.E.Engine.refutes faults c.deref-3.result.now given fewer verdicts c.deref-2.result.now (subst IsSound c.netlist.ensures c.sound.ensures)

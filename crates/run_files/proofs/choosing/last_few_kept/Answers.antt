@@ -14,7 +14,7 @@ use Rattle.run_files.proofs.choosing.last_few_kept.Goals as goal
 
 pub last_tells_beside-requires-clause-wide : goal.last_tells_beside-requires-clause-wide
 last_tells_beside-requires-clause-wide g c κs within =
-    let n = c.args.core.now in
+    let n = c.args.errand.now.core.now in
     let P : List Pattern → Type 0 = λ ps. All (HasWidthsOf n) ps in
     subst P (sym (c.deref-3.ensures.value ∙ c.in_ok-patterns.ensures))
     (kept_all (HasWidthsOf n) (λ i. get_or c.deref-2.result.now i false) 0 c.args.patterns.items c.requires.wide)
@@ -27,14 +27,15 @@ last_tells_beside-requires-clause-count g c κs within =
 
 pub tell-requires : goal.tell-requires
 tell-requires g c =
-    let n = c.args.core.now in
+    let n = c.args.errand.now.core.now in
     let size = AllZip-long (LastDetected n c.deref-3.result.now) c.args.faults.now c.in_ok-last.last.items c.in_ok-last.ensures in
     let is = ap length c.deref-4.ensures.value in
     omega (arith, c.requires.count, c.args.verdicts.ok.0)
 
 pub returns : goal.returns
-returns g c = λ holds given is.
-    let n = c.args.core.now in
+returns g c = λ given is.
+    let n = c.args.errand.now.core.now in
+    let holds = c.args.errand.now.holds.now in
     let times = c.args.plan.times in
     let faults = c.args.faults.now in
     let patterns = c.args.patterns.items in
@@ -51,4 +52,4 @@ returns g c = λ holds given is.
     subst (λ (ls : List (Option (ℕ × Point))). AllZip (LastDetected n kept) faults ls) (sym c.deref-4.ensures.value)
     (subst (λ (ps : List Pattern). AllZip (LastDetected n ps) faults c.in_ok-last.last.items) (c.deref-3.ensures.value ∙ c.in_ok-patterns.ensures) c.in_ok-last.ensures) in
     subst (λ (ps : List Pattern). AreChosen n holds times faults given verdicts ps new) (sym c.in_ok-patterns.ensures)
-    (chosen_often n holds times faults given patterns marks last verdicts new c.requires.some is are tells c.tell.ensures c.requires.count)
+    (chosen_often n holds times faults given patterns marks last verdicts new c.requires.ready.times is are tells c.tell.ensures c.requires.count)

@@ -7,6 +7,6 @@ use Rattle.run_files.proofs.files.counted_and_said.Goals as goal
 
 pub times_said-requires-clause-wide : goal.times_said-requires-clause-wide
 times_said-requires-clause-wide c =
-    let n = c.args.core.now in
+    let n = c.args.case.now.netlist.now in
     let P : List Pattern → Type 0 = λ ps. All (HasWidthsOf n) ps in
-    subst P (sym c.deref.ensures.value) (widths n c.args.holds.now c.args.found.now.patterns.items c.requires.verdicts.obey)
+    subst P (sym c.as_slice.ensures.value) (widths n c.args.case.now.holds.now c.args.found.now.patterns.items c.requires.found.verdicts.obey)

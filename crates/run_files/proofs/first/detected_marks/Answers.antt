@@ -7,7 +7,7 @@ use Rattle.run_files.proofs.first.detected_marks.Goals as goal
 
 pub returns : goal.returns
 returns g c =
-    let n = c.args.core.now in
+    let n = c.args.errand.now.core.now in
     let faults = c.args.faults.now in
     let patterns = c.args.patterns.now in
     let told = c.in_ok-told.told.items in

@@ -7,6 +7,6 @@ use Rattle.run_files.proofs.near.all_near_tests.Goals as goal
 
 pub loop-k-preserved : goal.loop-k-preserved
 loop-k-preserved g c =
-    let P : Pattern → Type 0 = IsPatternOf c.args.core.now c.args.holds.now in
+    let P : Pattern → Type 0 = IsPatternOf c.args.turning.now.core.now c.args.turning.now.holds.now in
     subst (λ (ps : List Pattern). All P ps) (sym c.in_ok-append.ensures.items)
     (All-append P c.loop-k.all.items c.in_ok-near.near.items c.loop-k.invariant c.in_ok-near.ensures.obey)

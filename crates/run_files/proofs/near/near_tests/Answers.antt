@@ -8,8 +8,8 @@ use Rattle.run_files.proofs.near.near_tests.Goals as goal
 
 pub returns : goal.returns
 returns g c =
-    let holds = c.args.holds.now in
-    let P : Pattern → Type 0 = IsPatternOf c.args.core.now holds in
+    let holds = c.args.turning.now.holds.now in
+    let P : Pattern → Type 0 = IsPatternOf c.args.turning.now.core.now holds in
     let near : All P c.in_ok-near.near.items =
     subst (λ (ps : List Pattern). All P ps) c.deref.ensures.value
     (subst (λ (n : Netlist). All (IsPatternOf n holds) c.deref.result.now) c.netlist.ensures c.if-not-are_patterns.ensures) in

@@ -14,35 +14,30 @@ asked_classes-requires-clause-size g c =
     let most : length c.args.classes.now.numbers ≤ 2052000000 = c.represented.ensures.all in
     (c.requires.faults, omega (arith, most, c.requires.faults))
 
-pub search_behind_drawn-requires-clause-few : goal.search_behind_drawn-requires-clause-few
-search_behind_drawn-requires-clause-few g c κs lives =
-    let a = c.in_ok-asked.asked in
-    let reps = c.args.classes.now.representatives in
-    let size = ap length c.in_ok-asked.ensures.faults_are in
-    omega (arith, size, fewer a.others.items reps, c.represented.ensures.few)
-
-pub search_behind_drawn-requires-clause-weights : goal.search_behind_drawn-requires-clause-weights
-search_behind_drawn-requires-clause-weights g c κs lives =
+pub search_asked-requires-clause-asked : goal.search_asked-requires-clause-asked
+search_asked-requires-clause-asked g c κs lives =
+    let P : Fault → Type 0 = λ f. IsLineOf c.args.errand.now.core.now f.line in
     let a = c.in_ok-asked.asked in
     let are = c.in_ok-asked.ensures in
     let reps = c.args.classes.now.representatives in
-    ap length are.weights_are ∙ (as_many a.others.items reps are.weights are.are_weights.size ∙ sym (ap length are.faults_are))
-
-pub search_behind_drawn-requires-clause-lines : goal.search_behind_drawn-requires-clause-lines
-search_behind_drawn-requires-clause-lines g c κs lives =
-    let P : Fault → Type 0 = λ f. IsLineOf c.args.core.now f.line in
-    subst (λ (fs : List Fault). All P fs) (sym c.in_ok-asked.ensures.faults_are)
-    (left_have P c.in_ok-asked.asked.others.items c.args.classes.now.representatives c.represented.ensures.lines)
+    let size = ap length are.faults_are in
+    record {
+      faults = record {
+        few = omega (arith, size, fewer a.others.items reps, c.represented.ensures.few);
+        lines = subst (λ (fs : List Fault). All P fs) (sym are.faults_are) (left_have P a.others.items reps c.represented.ensures.lines);
+      };
+      weights = ap length are.weights_are ∙ (as_many a.others.items reps are.weights are.are_weights.size ∙ sym size);
+    }
 
 pub returns : goal.returns
 returns g c =
-    let n = c.args.core.now in
+    let n = c.args.errand.now.core.now in
     let a = c.in_ok-asked.asked in
     let classes = c.args.classes.now in
     let marks = c.args.faults.now in
     let kept = c.in_ok-patterns.field-0.patterns.items in
     let verdicts = c.in_ok-patterns.field-0.verdicts.items in
     let spreads : c.in_ok-verdicts.verdicts.items ≡ spread a.others.items verdicts = cc (c.in_ok-verdicts.ensures, c.deref.ensures.value, c.in_ok-patterns.verdicts-is) in
-    subst (λ (vs : List Verdict). AreSearched n c.args.holds.now c.args.plan.limit g.E.Engine.refutes c.args.plan.times c.args.plan.percent classes marks c.args.first.items kept vs) (sym spreads)
-    (searched_of n c.args.holds.now c.args.plan.limit g.E.Engine.refutes c.args.plan.times c.args.plan.percent classes marks c.args.first.items kept verdicts c.requires.classes.within a c.in_ok-asked.ensures
+    subst (λ (vs : List Verdict). AreSearched n c.args.errand.now.holds.now c.args.plan.limit g.E.Engine.refutes c.args.plan.times c.args.plan.percent classes marks c.args.first.items kept vs) (sym spreads)
+    (searched_of n c.args.errand.now.holds.now c.args.plan.limit g.E.Engine.refutes c.args.plan.times c.args.plan.percent classes marks c.args.first.items kept verdicts c.requires.classes.within a c.in_ok-asked.ensures
     c.in_ok-patterns.ensures)

@@ -3,19 +3,18 @@ use Rattle.std.specs.List.{All}
 use Rattle.std.proofs.lemmas.List.Elements.{All-append}
 use Rattle.statement.specs.declared.lines.Fault.{Fault}
 use Rattle.statement.specs.Patterns.{Pattern}
-use Rattle.netlist.specs.Lines.{IsLineOf}
 use Rattle.cubes.specs.Cubes.{IsPatternOf}
+use Rattle.run_files.specs.inner.Plans.{AreFaultsOf}
 use Rattle.run_files.proofs.searching.with_drawn.Goals as goal
 
-pub drawn_patterns-requires-clause-lines : goal.drawn_patterns-requires-clause-lines
-drawn_patterns-requires-clause-lines g c κs lives =
-    let P : List Fault → Type 0 = λ fs. All (λ (f : Fault). IsLineOf c.args.core.now f.line) fs in
-    subst P (sym c.deref-7.ensures.value) (c.in_ok-left.ensures.lines c.args.core.now (subst P (sym c.deref-3.ensures.value) c.requires.lines))
+pub drawn_patterns-requires-clause-faults : goal.drawn_patterns-requires-clause-faults
+drawn_patterns-requires-clause-faults g c κs lives =
+    subst (λ (fs : List Fault). AreFaultsOf c.args.errand.now.core.now fs) (sym c.deref-2.ensures.value) c.in_ok-left.ensures.faults
 
 pub returns-clause-obey : goal.returns-clause-obey
 returns-clause-obey g c =
-    subst (λ (ps : List Pattern). All (IsPatternOf c.args.core.now c.args.holds.now) ps) (sym c.in_ok-append.ensures.items)
-    (All-append (IsPatternOf c.args.core.now c.args.holds.now) c.args.first.items c.in_ok-drawn.drawn.items c.requires.first.0 c.in_ok-drawn.ensures.obey)
+    subst (λ (ps : List Pattern). All (IsPatternOf c.args.errand.now.core.now c.args.errand.now.holds.now) ps) (sym c.in_ok-append.ensures.items)
+    (All-append (IsPatternOf c.args.errand.now.core.now c.args.errand.now.holds.now) c.args.first.items c.in_ok-drawn.drawn.items c.requires.first.0 c.in_ok-drawn.ensures.obey)
 
 pub returns-clause-few : goal.returns-clause-few
 returns-clause-few g c =
