@@ -1,5 +1,5 @@
 -- Transition faults last detected among some of the patterns, and among all.
-use Rattle.std.proofs.Common.{◌≡◌, ℕ, ◌+◌, ◌-◌, ◌≤◌, false, List, length, take, drop, get_or, set, replicate, Option, Some, None, refl, sym, ◌∙◌, ap, subst, inl, inr, arith}
+use Rattle.std.proofs.Common.{◌≡◌, ℕ, ◌+◌, ◌-◌, ◌<◌, ◌≤◌, false, List, length, take, drop, get_or, set, replicate, Option, Some, None, refl, sym, ◌∙◌, ap, subst, inl, inr, arith}
 use Rattle.std.specs.List.{All, AllZip, slice_get}
 use Rattle.std.specs.Option.{is_some, option_map}
 use Rattle.std.proofs.lemmas.Bool.{cases_eq}
@@ -13,15 +13,17 @@ use Rattle.statement.specs.Netlists.{Netlist}
 use Rattle.netlist.proofs.Settling.{zip_from}
 use Rattle.statement.specs.Patterns.{Pattern, IsDetectedAt}
 use Rattle.word_sim.specs.Hits.{LastMarked}
-use Rattle.word_sim.specs.inner.Packed.{AreGoodFor, IsMarked, IsUsed}
-use Rattle.observed_points.specs.Points.{point_of}
+use Rattle.word_sim.specs.inner.Packed.{AreGoodFor, AreSettledWords, IsMarked, IsUsed}
+use Rattle.events.specs.Standing.{Standing}
+use Rattle.observed_points.specs.declared.points.Points.{Points}
+use Rattle.observed_points.specs.Points.{ArePoints, point_of}
 use Rattle.word_sim.specs.inner.Found.{IsFrom, IsMoved, IsTold}
 use Rattle.word_sim.proofs.LastFrom.{from_part}
 use Rattle.word_sim.proofs.WordDetection.{some_below}
 use Rattle.transition_frames.specs.Frames.{frames_of, frame_fault}
 use Rattle.transition_frames.proofs.Detecting.{frames_detect}
 use Rattle.transition_sim.specs.Detections.{IsTransitionDetectedAt, LastTransition}
-use Rattle.transition_sim.specs.inner.Launches.{AreFramesFrom, AreFramesUpTo, AreSecond, IsLaunched}
+use Rattle.transition_sim.specs.inner.Launches.{AreFrames, AreFramesFrom, AreSecond, AreTold, AreToldBelow, IsLaunched}
 use Rattle.transition_sim.proofs.WordsLaunched.{all_again, second_good, marks_marked, last_on_frames}
 
 -- nothing is told yet
@@ -33,34 +35,57 @@ none_from n patterns faults m e = record {
       (λ place q l t. let b = some_below patterns place t.pattern t.at in absurd (omega arith));
 }
 
-pub all_up : (n : Netlist) (patterns : List Pattern) (m m' : ℕ) (faults : List Fault) (told : List (Option (ℕ × Point))) (k : ℕ) → length faults ≤ k → AreFramesUpTo n patterns m m' faults told k → AreFramesFrom n patterns m faults told
-all_up n patterns m m' faults told k all h = record { size = h.size; each = λ i f at. let l = some_below faults i f at in h.before i f (omega arith) at }
+-- one fault more
+pub one_told : (n : Netlist) (part : List Pattern) (start : ℕ) (faults : List Fault) (known told : List (Option (ℕ × Point))) (m : ℕ) (f : Fault) (last : Option (ℕ × Point))
+    → AreToldBelow n part start faults known told m → m < length told → slice_get faults m ≡ Some f → IsTold (frames_of n f) part start (frame_fault n f) (get_or told m None) last
+    → AreToldBelow n part start faults known (set told m last) (m + 1)
+one_told n part start faults known told m f last h within at t = record {
+  size = length-set told m last ∙ h.size;
+  below = λ k g l at_k. elim (cases_eq k m) [
+    | inl e ↦
+        let same : f ≡ g = some_same f g (sym at ∙ (ap (slice_get faults) (sym e) ∙ at_k)) in
+        let was : get_or told m None ≡ get_or known k None = h.others m (omega arith) ∙ ap (λ j. get_or known j None) (sym e) in
+        let is : get_or (set told m last) k None ≡ last = ap (λ j. get_or (set told m last) j None) e ∙ get_or-set_same told m last None within in
+        subst (λ (b : Fault). IsTold (frames_of n b) part start (frame_fault n b) (get_or known k None) (get_or (set told m last) k None)) same
+        (subst (λ o. IsTold (frames_of n f) part start (frame_fault n f) (get_or known k None) o) (sym is)
+        (subst (λ o. IsTold (frames_of n f) part start (frame_fault n f) o last) was t))
+    | inr ne ↦
+        subst (λ o. IsTold (frames_of n g) part start (frame_fault n g) (get_or known k None) o) (sym (get_or-set_other told m k last None ne))
+        (h.below k g (omega arith) at_k)
+  ];
+  others = λ k l. get_or-set_other told m k last None (λ e. omega arith) ∙ h.others k (omega arith);
+} where
+  some_same : (a b : Fault) → Some a ≡ Some b → a ≡ b
+  some_same a b e = cc
 
-pub one_up : (n : Netlist) (patterns part : List Pattern) (start end : ℕ) → start ≤ end → part ≡ take (end - start) (drop start patterns) → (faults : List Fault) (told : List (Option (ℕ × Point))) (k : ℕ) (f : Fault) (known last : Option (ℕ × Point))
-    → AreFramesUpTo n patterns start end faults told k → slice_get faults k ≡ Some f → known ≡ get_or told k None → IsTold (frames_of n f) part start (frame_fault n f) known last
-    → AreFramesUpTo n patterns start end faults (set told k last) (k + 1)
-one_up n patterns part start end order is faults told k f known last h at known_is t =
-    let inside = some_below faults k f at in
-    let size = h.size in
-    record {
-      size = length-set told k last ∙ h.size;
-      before = λ i g l at_i. elim (cases_eq i k) [
-        | inl e ↦
-            let same : f ≡ g = some_same f g (sym at ∙ (ap (slice_get faults) (sym e) ∙ at_i)) in
-            subst (λ o. IsFrom (frames_of n g) patterns start (frame_fault n g) o) (sym (ap (λ j. get_or (set told k last) j None) e ∙ get_or-set_same told k last None (omega arith)))
-            (subst (λ (b : Fault). IsFrom (frames_of n b) patterns start (frame_fault n b) last) same
-            (told_from known (subst (IsFrom (frames_of n f) patterns end (frame_fault n f)) (sym known_is) (h.after k f (omega arith) at)) t))
-        | inr ne ↦ subst (λ o. IsFrom (frames_of n g) patterns start (frame_fault n g) o) (sym (get_or-set_other told k i last None ne)) (h.before i g (omega arith) at_i)
-      ];
-      after = λ i g l at_i. subst (λ o. IsFrom (frames_of n g) patterns end (frame_fault n g) o) (sym (get_or-set_other told k i last None (λ e. omega arith))) (h.after i g (omega arith) at_i);
-    } where
-      some_same : (a b : Fault) → Some a ≡ Some b → a ≡ b
-      some_same a b e = cc
+-- all were gone over
+pub told_all : (n : Netlist) (part : List Pattern) (start : ℕ) (faults : List Fault) (known told : List (Option (ℕ × Point))) (m : ℕ) → length faults ≤ m
+    → AreToldBelow n part start faults known told m → AreTold n part start faults known told
+told_all n part start faults known told m all h = record { size = h.size; each = λ k f at. let l = some_below faults k f at in h.below k f (omega arith) at }
 
-      told_from : (known : Option (ℕ × Point)) → IsFrom (frames_of n f) patterns end (frame_fault n f) known → IsTold (frames_of n f) part start (frame_fault n f) known last
-          → IsFrom (frames_of n f) patterns start (frame_fault n f) last
-      told_from None none m = from_part (frames_of n f) patterns part start end order is (frame_fault n f) last none m
-      told_from (Some w) was m = subst (IsFrom (frames_of n f) patterns start (frame_fault n f)) (sym m) was
+-- what some of the patterns tell, where the later ones tell nothing
+pub part_up : (n : Netlist) (patterns part : List Pattern) (start end : ℕ) → start ≤ end → part ≡ take (end - start) (drop start patterns) → (faults : List Fault) (known told : List (Option (ℕ × Point)))
+    → AreFramesFrom n patterns end faults known → AreTold n part start faults known told → AreFramesFrom n patterns start faults told
+part_up n patterns part start end order is faults known told later are = record {
+  size = are.size ∙ later.size;
+  each = λ k f at. told_from f (get_or known k None) (get_or told k None) (later.each k f at) (are.each k f at);
+} where
+  told_from : (f : Fault) (known last : Option (ℕ × Point)) → IsFrom (frames_of n f) patterns end (frame_fault n f) known → IsTold (frames_of n f) part start (frame_fault n f) known last
+      → IsFrom (frames_of n f) patterns start (frame_fault n f) last
+  told_from f None last none m = from_part (frames_of n f) patterns part start end order is (frame_fault n f) last none m
+  told_from f (Some w) last was m = subst (IsFrom (frames_of n f) patterns start (frame_fault n f)) (sym m) was
+
+-- ---- the words of both frames
+
+-- words that settle take the place of those before
+pub frames_kept : (first second first' second' : Standing ℕ) (points : Points) → AreFrames first second points → first'.netlist ≡ first.netlist → AreSettledWords first.netlist first'.values
+    → second'.netlist ≡ second.netlist → AreSettledWords second.netlist second'.values → AreFrames first' second' points
+frames_kept first second first' second' points are one one_settled two two_settled = record {
+  same = one ∙ (are.same ∙ sym two);
+  first_settled = subst (λ (m : Netlist). AreSettledWords m first'.values) (sym one) one_settled;
+  second_settled = subst (λ (m : Netlist). AreSettledWords m second'.values) (sym two) two_settled;
+  points_are = subst (λ (m : Netlist). ArePoints m points.seen.items points.first.items points.numbers.items) (sym two) are.points_are;
+}
 
 -- ---- from the two frames to the transition fault
 

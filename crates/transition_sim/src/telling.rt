@@ -1,17 +1,17 @@
-//! Where transition faults are last detected, by any number of patterns.
-ghost use Rattle.std.specs.Prelude.{◌≡◌, ◌+◌, ◌≤◌, ◌<◌, ◌^◌, [], ℕ, length, replicate, IfOk, IfSome, OnOk};
+//! Where transition faults are last detected, by any number of patterns: up to 64 of them at a time are simulated in two frames, and then each fault is
+//! told of that no later ones detect.
+ghost use Rattle.std.specs.Prelude.{◌≡◌, ◌+◌, ◌≤◌, ◌<◌, ◌^◌, ℕ, length, replicate, IfOk, IfSome, OnOk};
 ghost use Rattle.std.specs.List.{All, AllZip};
 ghost use Rattle.std.specs.Option.{option_map};
-ghost use Rattle.netlist.specs.Conditions.{IsSound};
 ghost use Rattle.netlist.specs.Lines.{IsLineOf};
 ghost use Rattle.statement.specs.declared.lines.Fault.{Fault as FaultOf};
 ghost use Rattle.transition_frames.specs.Frames.{frames_of, frame_fault};
 ghost use Rattle.word_sim.specs.Words.{HasWidthsOf};
 ghost use Rattle.word_sim.specs.inner.Found.{IsTold};
-ghost use Rattle.word_sim.specs.inner.Packed.{AreGoodFor, AreSettledWords, IsUsed};
-ghost use Rattle.observed_points.specs.Points.{ArePoints, point_of};
+ghost use Rattle.word_sim.specs.inner.Packed.{IsUsed};
+ghost use Rattle.observed_points.specs.Points.{point_of};
 ghost use Rattle.transition_sim.specs.Detections.{LastTransition};
-ghost use Rattle.transition_sim.specs.inner.Launches.{AreFramesFrom, AreSecond};
+ghost use Rattle.transition_sim.specs.inner.Launches.{AreFramesFrom, AreTold, IsBehind, IsPart};
 
 use crate::launching::{launched, next_frame};
 use cubes::Pattern;
@@ -20,7 +20,18 @@ use fault_universe::FaultSet;
 use netlist::{Core, Fault, Netlist, NoMemory, Point};
 use observed_points::{Points, point_at};
 use std::alloc::{AllocError, Global};
+use std::marker::Model;
 use word_sim::{good_events, last_marked, next_patterns, used_bits};
+
+/// Up to 64 patterns in the first of two frames: their words there, and the place of the first of them among all.
+#[derive(Drop)]
+struct Part<'a> {
+    netlist: &'a Netlist,
+    patterns: &'a [Pattern],
+    words: &'a [u64],
+    points: &'a Points,
+    start: usize,
+}
 
 /// What was found among some patterns, by places among all.
 fn moved(netlist: &Netlist, found: Option<(u32, usize)>, start: usize) -> Option<(u32, Point)>
@@ -36,79 +47,139 @@ fn moved(netlist: &Netlist, found: Option<(u32, usize)>, start: usize) -> Option
 
 /// Where a fault is last detected: what is known, or else what these patterns tell.
 fn told_by(
-    first: &Events<'_, u64>,
+    part: &Part<'_>,
     second: &mut Events<'_, u64>,
-    points: &Points,
-    patterns: &[Pattern],
     used: u64,
-    start: usize,
     fault: &Fault,
     known: Option<(u32, Point)>,
 ) -> Option<(u32, Point)>
-    requires netlist { second.old.netlist ≡ first.now.netlist }
-    requires points { ArePoints second.old.netlist points.now.seen.items points.now.first.items points.now.numbers.items }
-    requires good { AreGoodFor first.now.netlist patterns.now first.now.values }
-    requires behind { AreSecond second.old.netlist first.now.values second.old.values }
-    requires used { IsUsed (length patterns.now) used }
-    requires line { IsLineOf second.old.netlist fault.now.line }
-    requires trail { second.old.trail ≡ [] }
-    requires start { start + 64 ≤ 2 ^ 32 }
-    ensures told { IsTold (frames_of second.old.netlist fault.now) patterns.now start (frame_fault second.old.netlist fault.now) known result }
+    requires part { IsPart part.now.netlist.now part.now.patterns.now part.now.words.now part.now.points.now part.now.start }
+    requires behind { IsBehind part.now.netlist.now part.now.words.now second.old }
+    requires used { IsUsed (length part.now.patterns.now) used }
+    requires line { IsLineOf part.now.netlist.now fault.now.line }
+    ensures told { IsTold (frames_of part.now.netlist.now fault.now) part.now.patterns.now part.now.start (frame_fault part.now.netlist.now fault.now) known result }
     ensures same { second.new ≡ second.old }
 {
-    let _ = patterns;
     if known.is_some() {
         return known;
     }
-    let netlist = first.core().netlist();
-    netlist.sound();
-    let marks = launched(netlist, first.values(), used, fault);
-    let found = last_marked(second, points, marks, fault);
-    moved(netlist, found, start)
+    part.netlist.sound();
+    let marks = launched(part.netlist, part.words, used, fault);
+    let found = last_marked(second, part.points, marks, fault);
+    moved(part.netlist, found, part.start)
 }
 
 /// Goes over the faults that no later pattern detects.
 fn tell_all(
-    alloc: Global,
-    core: &Core,
-    first: &mut Events<'_, u64>,
+    part: &Part<'_>,
     second: &mut Events<'_, u64>,
-    points: &Points,
-    patterns: &[Pattern],
-    start: usize,
-    end: usize,
     faults: &FaultSet,
     told: &mut Vec<Option<(u32, Point)>>,
-) -> Result<(), AllocError>
-    requires points { ArePoints core.now points.now.seen.items points.now.first.items points.now.numbers.items }
-    requires wide { All (HasWidthsOf core.now) patterns.now }
-    requires lines { All (λ (f : FaultOf). IsLineOf core.now f.line) faults.now }
-    requires few_faults { length faults.now < 2 ^ 32 }
-    requires count { length patterns.now + 64 ≤ 2 ^ 32 }
-    requires order { start ≤ end }
-    requires end { end ≤ length patterns.now }
-    requires few { end ≤ start + 64 }
-    requires later { AreFramesFrom core.now patterns.now end faults.now told.old.items }
-    requires first { first.old.netlist ≡ core.now }
-    requires first_settled { AreSettledWords core.now first.old.values }
-    requires second { second.old.netlist ≡ core.now }
-    requires second_settled { AreSettledWords core.now second.old.values }
-    ensures told { OnOk result (AreFramesFrom core.now patterns.now start faults.now told.new.items) }
-    ensures first { OnOk result (first.new.netlist ≡ core.now) }
-    ensures first_settled { OnOk result (AreSettledWords core.now first.new.values) }
-    ensures second { OnOk result (second.new.netlist ≡ core.now) }
-    ensures second_settled { OnOk result (AreSettledWords core.now second.new.values) }
+)
+    requires part { IsPart part.now.netlist.now part.now.patterns.now part.now.words.now part.now.points.now part.now.start }
+    requires behind { IsBehind part.now.netlist.now part.now.words.now second.old }
+    requires lines { All (λ (f : FaultOf). IsLineOf part.now.netlist.now f.line) faults.now }
+    requires few { length faults.now < 2 ^ 32 }
+    requires size { length told.old.items ≡ length faults.now }
+    ensures told { AreTold part.now.netlist.now part.now.patterns.now part.now.start faults.now told.old.items told.new.items }
+    ensures same { second.new ≡ second.old }
 {
-    let part = &patterns[start..end];
-    next_patterns(alloc, first, part)?;
-    next_frame(alloc, first, second, points)?;
-    let used = used_bits(part.len());
+    let used = used_bits(part.patterns.len());
     for k in 0..faults.len() {
-        let known = told[k as usize];
         let fault = faults.fault(k);
-        told[k as usize] = told_by(first, second, points, part, used, start, &fault, known);
+        let known = told[k as usize];
+        told[k as usize] = told_by(part, second, used, &fault, known);
     }
-    Ok(())
+}
+
+/// The words of both frames of a netlist, and what is kept of its points. Contracts see it as the netlist.
+#[derive(Drop)]
+struct Frames<'a> {
+    first: Events<'a, u64>,
+    second: Events<'a, u64>,
+    points: Points,
+}
+
+impl<'a> Model for Frames<'a> {
+    ghost use Rattle.statement.specs.Netlists.{Netlist};
+    ghost use Rattle.transition_sim.specs.inner.Launches.{AreFrames};
+
+    ghost Value = { Netlist };
+
+    ghost view = { λ f. f.second.netlist };
+
+    ghost invariant = { λ f. AreFrames f.first f.second f.points };
+}
+
+impl<'a> Frames<'a> {
+    /// Room for all patterns, and none yet.
+    fn new(alloc: Global, core: &'a Core) -> Result<Frames<'a>, AllocError>
+        ensures { IfOk result (λ f. f ≡ core.now) }
+    {
+        let points = Points::of(alloc, core)?;
+        let first = good_events(alloc, core, &[])?;
+        let second = good_events(alloc, core, &[])?;
+        Ok(Frames {
+            first,
+            second,
+            points,
+        })
+    }
+
+    /// Tells of each fault what up to 64 patterns before a place do, where the later ones tell nothing. Answers where these begin.
+    fn tell_part(
+        &mut self,
+        alloc: Global,
+        faults: &FaultSet,
+        patterns: &[Pattern],
+        end: usize,
+        told: &mut Vec<Option<(u32, Point)>>,
+    ) -> Result<usize, AllocError>
+        requires wide { All (HasWidthsOf self.old) patterns.now }
+        requires lines { All (λ (f : FaultOf). IsLineOf self.old f.line) faults.now }
+        requires few { length faults.now < 2 ^ 32 }
+        requires count { length patterns.now + 64 ≤ 2 ^ 32 }
+        requires end { (0 < end) × (end ≤ length patterns.now) }
+        requires later { AreFramesFrom self.old patterns.now end faults.now told.old.items }
+        ensures told { IfOk result (λ start. (start < end) × AreFramesFrom self.old patterns.now start faults.now told.new.items) }
+        ensures same { self.new ≡ self.old }
+    {
+        let start = end.saturating_sub(64);
+        let some = &patterns[start..end];
+        next_patterns(alloc, &mut self.first, some)?;
+        next_frame(alloc, &self.first, &mut self.second, &self.points)?;
+        let part = Part {
+            netlist: self.second.core().netlist(),
+            patterns: some,
+            words: self.first.values(),
+            points: &self.points,
+            start,
+        };
+        tell_all(&part, &mut self.second, faults, told);
+        Ok(start)
+    }
+
+    /// Tells where each fault is last detected, 64 patterns after another from the last ones on, where nothing is told yet.
+    fn tell(
+        &mut self,
+        alloc: Global,
+        faults: &FaultSet,
+        patterns: &[Pattern],
+        told: &mut Vec<Option<(u32, Point)>>,
+    ) -> Result<(), AllocError>
+        requires wide { All (HasWidthsOf self.old) patterns.now }
+        requires lines { All (λ (f : FaultOf). IsLineOf self.old f.line) faults.now }
+        requires few { length faults.now < 2 ^ 32 }
+        requires count { length patterns.now + 64 ≤ 2 ^ 32 }
+        requires none { told.old.items ≡ replicate (length faults.now) None }
+        ensures { OnOk result (AreFramesFrom self.old patterns.now 0 faults.now told.new.items) }
+    {
+        let mut end = patterns.len();
+        while end > 0 {
+            end = self.tell_part(alloc, faults, patterns, end, told)?;
+        }
+        Ok(())
+    }
 }
 
 fn none_told(alloc: Global, count: usize) -> Result<Vec<Option<(u32, Point)>>, AllocError>
@@ -121,42 +192,24 @@ fn none_told(alloc: Global, count: usize) -> Result<Vec<Option<(u32, Point)>>, A
     Ok(told)
 }
 
-/// Where each transition fault is last detected, 64 patterns after another from the last ones on.
-fn find_last(
+/// The same in room that is made for it.
+fn tell_anew(
     alloc: Global,
     core: &Core,
     faults: &FaultSet,
     patterns: &[Pattern],
-) -> Result<Vec<Option<(u32, Point)>>, AllocError>
+    told: &mut Vec<Option<(u32, Point)>>,
+) -> Result<(), AllocError>
     requires wide { All (HasWidthsOf core.now) patterns.now }
     requires lines { All (λ (f : FaultOf). IsLineOf core.now f.line) faults.now }
-    requires few_faults { length faults.now < 2 ^ 32 }
+    requires few { length faults.now < 2 ^ 32 }
     requires count { length patterns.now + 64 ≤ 2 ^ 32 }
-    ensures { IfOk result (λ v. AllZip (LastTransition core.now patterns.now) faults.now v.items) }
+    requires none { told.old.items ≡ replicate (length faults.now) None }
+    ensures { OnOk result (AllZip (LastTransition core.now patterns.now) faults.now told.new.items) }
 {
     core.netlist().sound();
-    let points = Points::of(alloc, core)?;
-    let mut first = good_events(alloc, core, &[])?;
-    let mut second = good_events(alloc, core, &[])?;
-    let mut told = none_told(alloc, faults.len() as usize)?;
-    let mut end = patterns.len();
-    while end > 0 {
-        let start = if end > 64 { end - 64 } else { 0 };
-        tell_all(
-            alloc,
-            core,
-            &mut first,
-            &mut second,
-            &points,
-            patterns,
-            start,
-            end,
-            faults,
-            &mut told,
-        )?;
-        end = start;
-    }
-    Ok(told)
+    let mut frames = Frames::new(alloc, core)?;
+    frames.tell(alloc, faults, patterns, told)
 }
 
 /// For each transition fault the last pattern that detects it by launch on capture and the first point at which it does, over any number of patterns.
@@ -172,5 +225,7 @@ pub fn last_tells2(
     requires count { length patterns.now + 64 ≤ 2 ^ 32 }
     ensures { IfOk result (λ v. AllZip (LastTransition core.now patterns.now) faults.now v.items) }
 {
-    find_last(alloc, core, faults, patterns).map_err(|_| NoMemory)
+    let mut told = none_told(alloc, faults.len() as usize)?;
+    tell_anew(alloc, core, faults, patterns, &mut told)?;
+    Ok(told)
 }
