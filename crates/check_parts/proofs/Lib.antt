@@ -7,3 +7,7 @@ pub mod ChainLemmas
 pub mod StrayLemmas
 pub mod NamedSignals
 pub mod CellPlaces
+pub mod Lists
+pub mod EndLemmas
+pub mod LastLemmas
+pub mod SightLemmas

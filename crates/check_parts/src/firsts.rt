@@ -85,11 +85,7 @@ fn note(places: &mut Vec<Option<usize>>, spot: usize, k: usize)
 fn free_places(alloc: Global, count: usize) -> Result<Vec<Option<usize>>, AllocError>
     ensures { IfOk result (λ places. places.items ≡ replicate count None) }
 {
-    let mut places = Vec::with_capacity(alloc, count)?;
-    for k in 0..count {
-        places.push(None)?;
-    }
-    Ok(places)
+    vec![in alloc; None; count]
 }
 
 /// Where each fault's first evidence stands among this.
