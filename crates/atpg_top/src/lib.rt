@@ -37,7 +37,7 @@ mod slow_lines;
 mod status;
 mod sweeping;
 
-use asked_run::run_netlist;
+use asked_run::{RunWords, run_netlist};
 use checking::check_run;
 use command_line::{Held, Request, WordsRefusal, parse};
 use command_steps::Refusal;
@@ -92,9 +92,11 @@ fn perform<'a, R: Threads + Wait + Sync, S: Shelf, T: Sink, G: Gate + Sync>(
             shelf,
             out,
             stage,
-            *names,
-            *options,
-            holds.as_slice(),
+            RunWords {
+                names: *names,
+                options: *options,
+                named: holds.as_slice(),
+            },
         ),
         Request::Check { prefix } => check_run(alloc, shelf, out, prefix),
         Request::Sweep { seed, gates } => {

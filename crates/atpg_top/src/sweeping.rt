@@ -23,7 +23,7 @@ ghost use Rattle.atpg_top.specs.Commands.{sweep_due};
 ghost use Rattle.test_commands.specs.Plays.{IsPlay};
 ghost use Rattle.atpg_top.specs.Sweeps.{IsPlayedBack, IsSweep, IsSweepRun, number_line, sweep_chains, sweep_text};
 
-use asked_run::{all_faults, by_trees};
+use asked_run::{Task, all_faults, by_trees};
 use command_line::{EngineName, RunOptions, SearchNumbers, TreeEngine};
 use command_steps::{Refusal, push_count};
 use commands::{Ending, Finding, Product, Stop, deliver};
@@ -94,7 +94,14 @@ fn run_sample<R: Threads + Wait + Sync, G: Gate + Sync>(
         faults: all_faults(alloc, core.netlist())?,
         first: Vec::new(alloc),
     };
-    by_trees(rt, alloc, core, engine, options, &holds, wanted, stage)
+    let task = Task {
+        rt,
+        alloc,
+        core,
+        holds: &holds,
+        stage,
+    };
+    by_trees(&task, engine, options, wanted)
 }
 
 /// The scanned netlist of a design, in one chain.

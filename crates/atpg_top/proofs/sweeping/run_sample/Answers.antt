@@ -5,20 +5,22 @@ use Rattle.run_files.specs.Runs.{Asked}
 use Rattle.atpg_top.specs.Sweeps.{sweep_chains, sweep_limit}
 use Rattle.atpg_top.proofs.sweeping.run_sample.Goals as goal
 
-pub by_trees-requires-clause-range : goal.by_trees-requires-clause-range
-by_trees-requires-clause-range g c κs within = record {
-  numbers = record {
-    chains = (omega arith, omega arith);
-    workers = (omega arith, omega arith);
-    limit = (omega arith, omega arith);
+pub by_trees-requires : goal.by_trees-requires
+by_trees-requires g c κs within = record {
+  design = c.requires;
+  held = ap length c.in_ok-holds.ensures ∙ length-map c.args.core.now.inputs (λ _. None);
+  range = record {
+    numbers = record {
+      chains = (omega arith, omega arith);
+      workers = (omega arith, omega arith);
+      limit = (omega arith, omega arith);
+    };
+    percent = tt;
+    rounds = omega arith;
+    times = (omega arith, omega arith);
   };
-  percent = tt;
-  rounds = omega arith;
-  times = (omega arith, omega arith);
+  wanted = ?;
 }
-
-pub by_trees-requires-clause-held : goal.by_trees-requires-clause-held
-by_trees-requires-clause-held g c κs within = ap length c.in_ok-holds.ensures ∙ length-map c.args.core.now.inputs (λ _. None)
 
 abbrev asked : Holds → List Bool → List Pattern → Asked
 asked holds marks first = record { holds = holds; chains = sweep_chains; limit = sweep_limit; refutes = false; faults = marks; percent = None; times = 1; first = first }
