@@ -51,7 +51,7 @@ use lines::tell;
 use listing::list_faults;
 use outside::{Gate, Shelf, Sink};
 use scanning::scan_netlist;
-use slow_lines::test_slow_lines;
+use slow_lines::{SlowAsked, test_slow_lines};
 use status::Status;
 use std::alloc::Global;
 use std::sync::Wait;
@@ -116,17 +116,15 @@ fn perform<'a, R: Threads + Wait + Sync, S: Shelf, T: Sink, G: Gate + Sync>(
             prefix,
             options,
             holds,
-        } => test_slow_lines(
-            rt,
-            alloc,
-            shelf,
-            out,
-            stage,
-            net,
-            prefix,
-            *options,
-            holds.as_slice(),
-        ),
+        } => {
+            let asked = SlowAsked {
+                net,
+                prefix,
+                named: holds.as_slice(),
+                options: *options,
+            };
+            test_slow_lines(rt, alloc, shelf, out, stage, &asked)
+        }
         Request::Grade {
             net,
             stil,

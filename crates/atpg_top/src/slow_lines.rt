@@ -26,9 +26,30 @@ use outside::{Gate, Shelf, Sink};
 use podem::Podem;
 use std::alloc::{AllocError, Global};
 use std::thread::Threads;
-use transition::Trees;
+use transition::{SearchPlan, Trees};
 use transition_frames::frames;
 use transition_run::{TransitionFiles, TransitionPlan, transition_files};
+use worker::Errand;
+
+/// What `transition` is asked for: a netlist's file, how the names of the five files begin, the inputs that are held, and how lines are searched.
+#[derive(Clone, Copy)]
+pub(crate) struct SlowAsked<'a, 'b> {
+    pub net: &'a str,
+    pub prefix: &'a str,
+    pub named: &'b [Held<'a>],
+    pub options: SlowOptions,
+}
+
+/// A design with its held inputs, and all that its slow lines are searched with but the engine.
+#[derive(Drop)]
+struct Ground<'a, R, G: Gate> {
+    rt: &'a R,
+    alloc: Global,
+    stage: &'a G,
+    core: &'a Core,
+    holds: &'a Holds,
+    options: SlowOptions,
+}
 
 /// What is written and shown of a test for slow lines.
 fn product_by(alloc: Global, made: TransitionFiles) -> Result<Product, AllocError>
@@ -67,200 +88,119 @@ fn some_frames(alloc: Global, netlist: &Netlist) -> Result<Core, NoMemory>
 }
 
 /// The five files, as this engine finds them.
-fn made_by<R: Threads + Sync, E: Engine + Sync, G: Gate + Sync>(
-    rt: &R,
-    alloc: Global,
-    stage: &G,
-    core: &Core,
-    options: SlowOptions,
+fn made_by<'a, R: Threads + Sync, E: Engine + Sync, G: Gate + Sync>(
+    ground: &Ground<'a, R, G>,
+    engine: &'a E,
     trees: Trees,
-    engine: &E,
-    holds: &Holds,
 ) -> Result<TransitionFiles, NoMemory>
-    requires design { IsDesign core.now }
-    requires held { AreHoldsOf core.now holds.now }
-    requires range { AreInRange options.numbers }
-    ensures { IfOk result (IsTransitionRun core.now holds.now options.numbers.chains options.numbers.limit E.refutes) }
+    requires { IsDesign ground.now.core.now × AreHoldsOf ground.now.core.now ground.now.holds.now × AreInRange ground.now.options.numbers }
+    ensures { IfOk result (IsTransitionRun ground.now.core.now ground.now.holds.now ground.now.options.numbers.chains ground.now.options.numbers.limit E.refutes) }
 {
-    let plan = TransitionPlan {
-        chains: options.numbers.chains,
-        workers: options.numbers.workers,
-        limit: options.numbers.limit,
-        seed: options.numbers.seed,
-        trees,
+    let errand = Errand {
+        rt: ground.rt,
+        alloc: ground.alloc,
+        core: ground.core,
+        engine,
+        stage: ground.stage,
+        holds: ground.holds,
     };
-    transition_files(rt, alloc, stage, core, plan, engine, holds)
+    let numbers = ground.options.numbers;
+    let search = SearchPlan {
+        limit: numbers.limit,
+        trees,
+        workers: numbers.workers,
+    };
+    let plan = TransitionPlan {
+        chains: numbers.chains,
+        seed: numbers.seed,
+        search,
+    };
+    transition_files(&errand, plan)
 }
 
 /// The five files, by a tree of decisions for each line. Those of FAN keep its rule on the line's own frames.
 fn by_trees<R: Threads + Sync, G: Gate + Sync>(
-    rt: &R,
-    alloc: Global,
-    stage: &G,
-    core: &Core,
-    options: SlowOptions,
+    ground: &Ground<'_, R, G>,
     guide: &Core,
     engine: TreeEngine,
-    holds: &Holds,
 ) -> Result<TransitionFiles, NoMemory>
-    requires design { IsDesign core.now }
-    requires held { AreHoldsOf core.now holds.now }
-    requires range { AreInRange options.numbers }
-    ensures { IfOk result (IsTransitionRun core.now holds.now options.numbers.chains options.numbers.limit false) }
+    requires { IsDesign ground.now.core.now × AreHoldsOf ground.now.core.now ground.now.holds.now × AreInRange ground.now.options.numbers }
+    ensures { IfOk result (IsTransitionRun ground.now.core.now ground.now.holds.now ground.now.options.numbers.chains ground.now.options.numbers.limit false) }
 {
     match engine {
         TreeEngine::Podem => {
-            let podem = Podem::of(alloc, guide)?;
-            made_by(
-                rt,
-                alloc,
-                stage,
-                core,
-                options,
-                Trees::OfFrames,
-                &podem,
-                holds,
-            )
+            let podem = Podem::of(ground.alloc, guide)?;
+            made_by(ground, &podem, Trees::OfFrames)
         }
         TreeEngine::Fan => {
-            let fan = Fan::of(alloc, guide)?;
-            made_by(
-                rt,
-                alloc,
-                stage,
-                core,
-                options,
-                Trees::OnPlaces,
-                &fan,
-                holds,
-            )
+            let fan = Fan::of(ground.alloc, guide)?;
+            made_by(ground, &fan, Trees::OnPlaces)
         }
     }
 }
 
 /// The five files, by clauses that are learned.
 fn by_clauses<R: Threads + Sync, G: Gate + Sync>(
-    rt: &R,
-    alloc: Global,
-    stage: &G,
-    core: &Core,
-    options: SlowOptions,
+    ground: &Ground<'_, R, G>,
     guide: &Core,
-    holds: &Holds,
 ) -> Result<TransitionFiles, NoMemory>
-    requires design { IsDesign core.now }
-    requires held { AreHoldsOf core.now holds.now }
-    requires range { AreInRange options.numbers }
-    ensures { IfOk result (IsTransitionRun core.now holds.now options.numbers.chains options.numbers.limit true) }
+    requires { IsDesign ground.now.core.now × AreHoldsOf ground.now.core.now ground.now.holds.now × AreInRange ground.now.options.numbers }
+    ensures { IfOk result (IsTransitionRun ground.now.core.now ground.now.holds.now ground.now.options.numbers.chains ground.now.options.numbers.limit true) }
 {
-    let clauses = Clauses::of(alloc, guide)?;
-    made_by(
-        rt,
-        alloc,
-        stage,
-        core,
-        options,
-        Trees::OfFrames,
-        &clauses,
-        holds,
-    )
+    let clauses = Clauses::of(ground.alloc, guide)?;
+    made_by(ground, &clauses, Trees::OfFrames)
 }
 
 /// The five files, by a tree of decisions for each line, or, where the search gives up, by clauses. What these settle may be by a tree of PODEM, so
 /// FAN's rule isn't asked of any.
 fn by_trees_then_clauses<R: Threads + Sync, G: Gate + Sync>(
-    rt: &R,
-    alloc: Global,
-    stage: &G,
-    core: &Core,
-    options: SlowOptions,
+    ground: &Ground<'_, R, G>,
     guide: &Core,
     engine: TreeEngine,
-    holds: &Holds,
 ) -> Result<TransitionFiles, NoMemory>
-    requires design { IsDesign core.now }
-    requires held { AreHoldsOf core.now holds.now }
-    requires range { AreInRange options.numbers }
-    ensures { IfOk result (IsTransitionRun core.now holds.now options.numbers.chains options.numbers.limit true) }
+    requires { IsDesign ground.now.core.now × AreHoldsOf ground.now.core.now ground.now.holds.now × AreInRange ground.now.options.numbers }
+    ensures { IfOk result (IsTransitionRun ground.now.core.now ground.now.holds.now ground.now.options.numbers.chains ground.now.options.numbers.limit true) }
 {
-    let second = Clauses::of(alloc, guide)?;
-    let few = options.numbers.limit;
+    let second = Clauses::of(ground.alloc, guide)?;
+    let few = ground.options.numbers.limit;
     match engine {
         TreeEngine::Podem => {
-            let first = Podem::of(alloc, guide)?;
-            let both = Then { first, few, second };
-            made_by(
-                rt,
-                alloc,
-                stage,
-                core,
-                options,
-                Trees::OfFrames,
-                &both,
-                holds,
-            )
+            let first = Podem::of(ground.alloc, guide)?;
+            made_by(ground, &Then { first, few, second }, Trees::OfFrames)
         }
         TreeEngine::Fan => {
-            let first = Fan::of(alloc, guide)?;
-            let both = Then { first, few, second };
-            made_by(
-                rt,
-                alloc,
-                stage,
-                core,
-                options,
-                Trees::OfFrames,
-                &both,
-                holds,
-            )
+            let first = Fan::of(ground.alloc, guide)?;
+            made_by(ground, &Then { first, few, second }, Trees::OfFrames)
         }
     }
 }
 
 /// The five files, as the engine that was asked for finds them.
 fn made_of<R: Threads + Sync, G: Gate + Sync>(
-    rt: &R,
-    alloc: Global,
-    stage: &G,
-    core: &Core,
-    options: SlowOptions,
-    holds: &Holds,
+    ground: &Ground<'_, R, G>,
 ) -> Result<TransitionFiles, NoMemory>
-    requires design { IsDesign core.now }
-    requires held { AreHoldsOf core.now holds.now }
-    requires range { AreInRange options.numbers }
-    ensures { IfOk result (IsTransitionRun core.now holds.now options.numbers.chains options.numbers.limit (may_refute options.engine)) }
+    requires { IsDesign ground.now.core.now × AreHoldsOf ground.now.core.now ground.now.holds.now × AreInRange ground.now.options.numbers }
+    ensures { IfOk result (IsTransitionRun ground.now.core.now ground.now.holds.now ground.now.options.numbers.chains ground.now.options.numbers.limit (may_refute ground.now.options.engine)) }
 {
-    let guide = some_frames(alloc, core.netlist())?;
-    match options.engine {
-        EngineName::Trees(engine) => by_trees(
-            rt, alloc, stage, core, options, &guide, engine, holds,
-        ),
-        EngineName::Clauses => by_clauses(rt, alloc, stage, core, options, &guide, holds),
-        EngineName::TreesThenClauses(engine) => {
-            by_trees_then_clauses(rt, alloc, stage, core, options, &guide, engine, holds)
-        }
+    let guide = some_frames(ground.alloc, ground.core.netlist())?;
+    match ground.options.engine {
+        EngineName::Trees(engine) => by_trees(ground, &guide, engine),
+        EngineName::Clauses => by_clauses(ground, &guide),
+        EngineName::TreesThenClauses(engine) => by_trees_then_clauses(ground, &guide, engine),
     }
 }
 
 /// What `transition` makes of a design with held inputs.
 fn test_held<R: Threads + Sync, G: Gate + Sync>(
-    rt: &R,
-    alloc: Global,
-    stage: &G,
-    core: &Core,
-    options: SlowOptions,
-    holds: &Holds,
+    ground: &Ground<'_, R, G>,
 ) -> Result<Product, Stop<Refusal>>
-    requires design { IsDesign core.now }
-    requires held { AreHoldsOf core.now holds.now }
-    requires range { AreInRange options.numbers }
-    ensures { IsWorked (slow_due options core.now holds.now) 5 result }
+    requires { IsDesign ground.now.core.now × AreHoldsOf ground.now.core.now ground.now.holds.now × AreInRange ground.now.options.numbers }
+    ensures { IsWorked (slow_due ground.now.options ground.now.core.now ground.now.holds.now) 5 result }
 {
-    let Ok(made) = made_of(rt, alloc, stage, core, options, holds) else {
+    let Ok(made) = made_of(ground) else {
         return Err(Stop::NoMemory);
     };
-    match product_by(alloc, made) {
+    match product_by(ground.alloc, made) {
         Ok(product) => Ok(product),
         Err(_) => Err(Stop::NoMemory),
     }
@@ -272,18 +212,27 @@ fn test_design<R: Threads + Sync, G: Gate + Sync>(
     alloc: Global,
     stage: &G,
     netlist: Netlist,
-    options: SlowOptions,
-    named: &[Held<'_>],
+    asked: &SlowAsked<'_, '_>,
 ) -> Result<Product, Stop<Refusal>>
     requires design { IsDesign netlist }
-    requires range { AreInRange options.numbers }
-    ensures { IsWorked (named_slow_due options (map hold_of named.now) netlist) 5 result }
+    requires range { AreInRange asked.now.options.numbers }
+    ensures { IsWorked (named_slow_due asked.now.options (map hold_of asked.now.named.now) netlist) 5 result }
 {
     let Ok(core) = Core::of(alloc, netlist) else {
         return Err(Stop::NoMemory);
     };
-    match holds_of(alloc, &core, named) {
-        Ok(holds) => test_held(rt, alloc, stage, &core, options, &holds),
+    match holds_of(alloc, &core, asked.named) {
+        Ok(holds) => {
+            let ground = Ground {
+                rt,
+                alloc,
+                stage,
+                core: &core,
+                holds: &holds,
+                options: asked.options,
+            };
+            test_held(&ground)
+        }
         Err(stop) => Err(stop),
     }
 }
@@ -294,43 +243,39 @@ fn work<R: Threads + Sync, G: Gate + Sync>(
     alloc: Global,
     stage: &G,
     texts: Vec<Vec<u8>>,
-    options: SlowOptions,
-    named: &[Held<'_>],
+    asked: &SlowAsked<'_, '_>,
 ) -> Result<Product, Stop<Refusal>>
     requires count { length texts.items ≡ 1 }
     requires within { All (λ text. length text ≤ most_bytes) (texts_of texts.items) }
-    requires range { AreInRange options.numbers }
-    ensures { IsWorked (transition_due options (map hold_of named.now) (texts_of texts.items)) 5 result }
+    requires range { AreInRange asked.now.options.numbers }
+    ensures { IsWorked (transition_due asked.now.options (map hold_of asked.now.named.now) (texts_of texts.items)) 5 result }
 {
     match design_of(alloc, texts) {
-        Ok(netlist) => test_design(rt, alloc, stage, netlist, options, named),
+        Ok(netlist) => test_design(rt, alloc, stage, netlist, asked),
         Err(stop) => Err(stop),
     }
 }
 
-/// Writes the five files of the slow lines of the netlist of the file `net`, its inputs of these names held, under names that begin with `prefix`.
+/// Writes the five files of the slow lines of a file's netlist.
 pub fn test_slow_lines<'a, R: Threads + Sync, S: Shelf, T: Sink, G: Gate + Sync>(
     rt: &R,
     alloc: Global,
     shelf: &mut S,
     out: &mut T,
     stage: &G,
-    net: &'a str,
-    prefix: &'a str,
-    options: SlowOptions,
-    named: &[Held<'_>],
+    asked: &SlowAsked<'a, '_>,
 ) -> Ending<'a, Refusal>
-    requires { AreInRange options.numbers }
-    ensures { CommandRow (net.now ∷ []) (run_files prefix.now) (transition_due options (map hold_of named.now))
+    requires { AreInRange asked.now.options.numbers }
+    ensures { CommandRow (asked.now.net.now ∷ []) (run_files asked.now.prefix.now) (transition_due asked.now.options (map hold_of asked.now.named.now))
         (world (S.files shelf.old) (S.failures shelf.old) (T.taken out.old) (T.failures out.old))
         (world (S.files shelf.new) (S.failures shelf.new) (T.taken out.new) (T.failures out.new)) result }
 {
-    let reads = [FileName::of(net)];
-    let writes = file_names(prefix);
+    let reads = [FileName::of(asked.net)];
+    let writes = file_names(asked.prefix);
     let texts = match read_in_order(alloc, shelf, &reads) {
         Ok(texts) => texts,
         Err(ending) => return ending,
     };
-    let worked = work(rt, alloc, stage, texts, options, named);
+    let worked = work(rt, alloc, stage, texts, asked);
     deliver(alloc, shelf, out, &writes, worked)
 }
