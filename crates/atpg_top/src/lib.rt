@@ -42,7 +42,7 @@ use checking::check_run;
 use command_line::{Held, Request, WordsRefusal, parse};
 use command_steps::Refusal;
 use commands::Ending;
-use diagnose_command::diagnose_log;
+use diagnose_command::{DiagnoseNames, diagnose_log};
 pub use laws::{
     declined_exactly, each_exclusive, failed_exactly, missing_exactly, nothing_else,
     refused_exactly, runs_pass, too_long_exactly, transitions_pass,
@@ -110,7 +110,14 @@ fn perform<'a, R: Threads + Wait + Sync, S: Shelf, T: Sink, G: Gate + Sync>(
             stil,
             log,
             options,
-        } => diagnose_log(rt, alloc, shelf, out, stage, net, stil, log, *options),
+        } => {
+            let names = DiagnoseNames {
+                net: *net,
+                stil: *stil,
+                log: *log,
+            };
+            diagnose_log(rt, alloc, shelf, out, stage, names, *options)
+        }
         Request::Transition {
             net,
             prefix,
