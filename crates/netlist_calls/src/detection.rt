@@ -1,5 +1,5 @@
 //! What patterns detect: the last one for each fault, how many, and which are needed for that.
-ghost use Rattle.std.specs.Prelude.{ℕ, IfOk};
+ghost use Rattle.std.specs.Prelude.{ℕ, IfOk, OnOk};
 ghost use Rattle.std.specs.List.{All};
 ghost use Rattle.netlist.specs.Designs.{IsDesign};
 ghost use Rattle.netlist.specs.Lines.{IsLineOf};
@@ -57,15 +57,24 @@ fn push_hits(to: &mut Said, count: usize, hits: &[Hit]) {
     }
 }
 
+/// Adds the fault of a text, if the list of faults has it.
+fn push_listed(netlist: &Netlist, name: &str, faults: &mut Vec<Fault>) -> Pushed
+    requires { All (λ (f : FaultOf). IsLineOf netlist.now f.line) faults.old.items }
+    ensures { OnOk result (All (λ (f : FaultOf). IsLineOf netlist.now f.line) faults.new.items) }
+{
+    if let Some(fault) = listed(netlist, name) {
+        faults.extend_from_slice(&[fault])?;
+    }
+    Ok(())
+}
+
 /// The faults of a text, parted by `, `, as far as the list of faults has them.
 fn faults_of(alloc: Global, netlist: &Netlist, text: &str) -> Result<Vec<Fault>, AllocError>
     ensures { IfOk result (λ v. All (λ (f : FaultOf). IsLineOf netlist.now f.line) v.items) }
 {
     let mut faults = Vec::new(alloc);
     for name in text.split(", ") {
-        if let Some(fault) = listed(netlist, name) {
-            faults.push(fault)?;
-        }
+        push_listed(netlist, name, &mut faults)?;
     }
     Ok(faults)
 }
