@@ -78,10 +78,7 @@ fn faults_of(alloc: Global, netlist: &Netlist, numbers: &str) -> Result<Vec<Faul
 fn play_alone<J: About>(to: &mut Vec<u8>, plan: &Plan<'_>, compacts: bool) -> Result<(), AllocError>
     requires { J.subject ≡ record plan.now { refutes = true } }
 {
-    let Ok(holds) = Holds::none(plan.alloc, plan.core) else {
-        return Err(AllocError);
-    };
-    let topic = topic_of::<J>(plan, &holds, true);
+    let topic = topic_of::<J>(plan, true);
     if compacts {
         play_compacted(to, &topic, plan.calls)
     } else {
@@ -99,10 +96,7 @@ fn play_locked<J: About, R: Wait>(
     requires subject { J.subject ≡ plan.now }
     requires workers { (0 < workers) × (workers ≤ most_workers) }
 {
-    let Ok(holds) = Holds::none(plan.alloc, plan.core) else {
-        return Err(AllocError);
-    };
-    let topic = topic_of::<J>(plan, &holds, false);
+    let topic = topic_of::<J>(plan, false);
     play_shares(to, rt, &topic, workers, plan.calls)
 }
 
@@ -144,11 +138,15 @@ pub fn push_played<R: Wait>(
     if faults.len() > 1_000_000 {
         return to.extend_from_slice(b"more than 1000000 classes\n");
     }
+    let Ok(holds) = Holds::none(alloc, core) else {
+        return Err(AllocError);
+    };
     let plan = Plan {
         alloc,
         core,
         faults: &faults,
         limit,
+        holds: &holds,
         calls: calls.as_bytes(),
     };
     play(to, rt, &plan, workers, on)

@@ -1,6 +1,5 @@
 //! What a list is about, told once for all its calls.
 ghost use Rattle.std.specs.Prelude.{◌≡◌, [], IfOk};
-ghost use Rattle.netlist.specs.Holds.{none_held};
 
 use list_core::{About, FaultList, Left};
 use netlist::{Core, Fault, Holds, NoMemory};
@@ -15,11 +14,12 @@ pub struct Plan<'a> {
     pub core: &'a Core,
     pub faults: &'a [Fault],
     pub limit: u32,
+    pub holds: &'a Holds,
     pub calls: &'a [u8],
 }
 
 impl<'a> Model for Plan<'a> {
-    ghost use Rattle.std.specs.Prelude.{◌≤◌, ◌<◌, ◌^◌, false, length};
+    ghost use Rattle.std.specs.Prelude.{◌≡◌, ◌≤◌, ◌<◌, ◌^◌, false, length};
     ghost use Rattle.std.specs.List.{All};
     ghost use Rattle.statement.specs.declared.lines.Fault.{Fault as FaultOf};
     ghost use Rattle.netlist.specs.Holds.{none_held};
@@ -28,12 +28,13 @@ impl<'a> Model for Plan<'a> {
 
     ghost Value = { Subject };
 
-    ghost view = { λ p. record { netlist = p.core.now; faults = p.faults.now; limit = p.limit; holds = none_held p.core.now; refutes = false } };
+    ghost view = { λ p. record { netlist = p.core.now; faults = p.faults.now; limit = p.limit; holds = p.holds.now; refutes = false } };
 
     ghost invariant = { λ p.
         All (λ (f : FaultOf). IsLineOf p.core.now f.line) p.faults.now
         × (length p.faults.now < 2 ^ 31)
-        × (1 ≤ p.limit) };
+        × (1 ≤ p.limit)
+        × (p.holds.now ≡ none_held p.core.now) };
 }
 
 /// What a list is about in which no input is held. Contracts see whether evidence may be a refutation.
@@ -67,9 +68,8 @@ impl<'a, J: About> Model for Topic<'a, J> {
 }
 
 /// What the plan's list is about.
-pub fn topic_of<'a, J: About>(plan: &Plan<'a>, holds: &'a Holds, refutes: bool) -> Topic<'a, J>
-    requires subject { J.subject ≡ record plan.now { refutes = refutes } }
-    requires holds { holds.now ≡ none_held plan.now.netlist }
+pub fn topic_of<'a, J: About>(plan: &Plan<'a>, refutes: bool) -> Topic<'a, J>
+    requires { J.subject ≡ record plan.now { refutes = refutes } }
     ensures { result ≡ refutes }
 {
     Topic {
@@ -77,7 +77,7 @@ pub fn topic_of<'a, J: About>(plan: &Plan<'a>, holds: &'a Holds, refutes: bool) 
         core: plan.core,
         faults: plan.faults,
         limit: plan.limit,
-        holds,
+        holds: plan.holds,
         refutes,
         about: PhantomData,
     }
