@@ -1,5 +1,5 @@
 -- Suspects that are played in batches, and answers in shares.
-use Rattle.std.proofs.Common.{◌≡◌, ℕ, suc, zero, ◌+◌, ◌-◌, ◌<◌, ◌≤◌, Bool, List, [], ◌∷◌, ◌++◌, map, length, get_or, set, take, drop, Option, Some, None, slice_get, refl, sym, ◌∙◌, ap, subst, inl, inr, arith, length-take}
+use Rattle.std.proofs.Common.{◌≡◌, ℕ, suc, zero, ◌+◌, ◌-◌, ◌<◌, ◌≤◌, Bool, List, [], ◌∷◌, ◌++◌, map, length, get_or, set, take, drop, min, Option, Some, None, slice_get, refl, sym, ◌∙◌, ap, subst, inl, inr, arith, length-take}
 use Rattle.std.specs.List.{AllZip}
 use Rattle.std.specs.Fork.{IsChunk}
 use Rattle.std.proofs.lemmas.Bool.{cases_eq, cases_lt}
@@ -85,7 +85,7 @@ module _ (marked : ℕ → ℕ → Bool) (s : Netlist) (cycles : List Cycle) (su
   answered f (Some p) h = (p, h)
 
   -- a batch more
-  pub batch_answers : (first start count : ℕ) (old new : List Answer) (batch : List Fault) (said : List (Option Played)) → batch ≡ take count (drop (first + start) suspects) → length said ≡ length batch → length said ≤ count
+  batch_answers : (first start count : ℕ) (old new : List Answer) (batch : List Fault) (said : List (Option Played)) → batch ≡ take count (drop (first + start) suspects) → length said ≡ length batch → length said ≤ count
       → AreAnswersOf marked s cycles suspects first old → AreJudged (against marked) s batch cycles said → ArePut said start (length said) old new → AreAnswersOf marked s cycles suspects first new
   batch_answers first start count old new batch said is size few before judged put k f a l at own = elim (cases_lt k start) [
     | inl low ↦ before k f a (let z = put.size in omega (arith, l)) at (sym (put.others k a (inl low)) ∙ own)
@@ -105,7 +105,7 @@ module _ (marked : ℕ → ℕ → Bool) (s : Netlist) (cycles : List Cycle) (su
   ]
 
   -- as many answers as suspects
-  pub batch_length : (begin count : ℕ) (said : List (Option Played)) → begin + count ≤ length suspects → AreJudged (against marked) s (take (begin + count - begin) (drop begin suspects)) cycles said
+  batch_length : (begin count : ℕ) (said : List (Option Played)) → begin + count ≤ length suspects → AreJudged (against marked) s (take (begin + count - begin) (drop begin suspects)) cycles said
       → (length said ≡ count) × (length said ≡ length (take (begin + count - begin) (drop begin suspects))) × (take (begin + count - begin) (drop begin suspects) ≡ take count (drop begin suspects))
   batch_length begin count said room judged =
       let e : begin + count - begin ≡ count = omega arith in
@@ -115,6 +115,20 @@ module _ (marked : ℕ → ℕ → Bool) (s : Netlist) (cycles : List Cycle) (su
       let b = length-take count (drop begin suspects) in
       let d = length-drop begin suspects in
       (omega arith, size, same)
+
+  -- up to 512 of those that are left
+  module _ (first start count : ℕ) (old : List Answer) (said : List (Option Played)) (is : count ≡ min (length old - start) 512) (inside : start < length old) (share : first + length old ≤ length suspects)
+      (judged : AreJudged (against marked) s (take (first + start + count - (first + start)) (drop (first + start) suspects)) cycles said) where
+    pub batch_fits : start + length said ≤ length old
+    batch_fits =
+        let r = batch_length (first + start) count said (omega (arith, is, inside, share)) judged in
+        let a = r.0 in
+        omega (arith, a, is, inside)
+
+    pub batch_put : (new : List Answer) → AreAnswersOf marked s cycles suspects first old → ArePut said start (length said) old new → AreAnswersOf marked s cycles suspects first new
+    batch_put new before put =
+        let r = batch_length (first + start) count said (omega (arith, is, inside, share)) judged in
+        batch_answers first start count old new (take (first + start + count - (first + start)) (drop (first + start) suspects)) said r.2 r.1 (let a = r.0 in omega (arith, a)) before judged put
 
   -- ---- shares
 

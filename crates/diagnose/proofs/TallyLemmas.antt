@@ -1,5 +1,6 @@
 -- Counts of suspects that are played in batches.
-use Rattle.std.proofs.Common.{◌≡◌, ℕ, suc, zero, ◌+◌, ◌-◌, ◌<◌, ◌≤◌, ◌⊎◌, List, [], ◌∷◌, ◌++◌, length, take, drop, Some, refl, sym, ◌∙◌, ap, subst, inl, inr, arith}
+use Rattle.std.proofs.Common.{◌≡◌, ℕ, suc, zero, ◌+◌, ◌-◌, ◌≤◌, List, [], ◌∷◌, ◌++◌, length, take, drop, min, Some, refl, sym, ◌∙◌, ap, subst, inl, inr, arith}
+use Rattle.std.proofs.lemmas.Bool.{cases_lt}
 use Rattle.std.proofs.lemmas.List.{length-drop, take_all}
 use Rattle.statement.specs.declared.lines.Fault.{Fault}
 use Rattle.statement.specs.Netlists.{Netlist}
@@ -21,24 +22,23 @@ pub tally_none : (counts : Counting) (s : Netlist) (suspects : List Fault) (cycl
 tally_none counts s [] cycles numbers e = subst (λ xs. AreCounted counts s [] cycles xs) (sym e) tt
 tally_none counts s (f ∷ fs) cycles numbers e = subst (λ xs. AreCounted counts s [] cycles xs) (sym e) tt
 
--- a batch of 128, or the last suspects
-pub tally_more : (counts : Counting) (s : Netlist) (suspects : List Fault) (cycles : List Cycle) (start count : ℕ) (old more new : List ℕ) → (count ≡ 128) ⊎ ((count < 128) × (start + count ≡ length suspects))
-    → AreCounted counts s (take start suspects) cycles old → AreCounted counts s (take (start + count - start) (drop start suspects)) cycles more → new ≡ old ++ more
-    → AreCounted counts s (take (start + 128) suspects) cycles new
-tally_more counts s suspects cycles start count old more new whole before batch is =
+-- the next 128, or as many as there are
+pub batch_taken : {X : Type 0} (xs : List X) (start count : ℕ) → count ≡ min (length xs - start) 128 → take (start + count - start) (drop start xs) ≡ take 128 (drop start xs)
+batch_taken xs start count is =
     let e : start + count - start ≡ count = omega arith in
-    let own : AreCounted counts s (take count (drop start suspects)) cycles more = subst (λ k. AreCounted counts s (take k (drop start suspects)) cycles more) e batch in
-    let same : take count (drop start suspects) ≡ take 128 (drop start suspects) = elim whole [
-      | inl full ↦ ap (λ k. take k (drop start suspects)) full
-      | inr last ↦
-          let size = length-drop start suspects in
-          let one = last.0 in
-          let two = last.1 in
-          take_all count (drop start suspects) (omega arith) ∙ sym (take_all 128 (drop start suspects) (omega arith))
-    ] in
-    subst (λ fs. AreCounted counts s fs cycles new) (sym (take_plus start 128 suspects ∙ ap (λ fs. take start suspects ++ fs) (sym same)))
-    (subst (λ xs. AreCounted counts s (take start suspects ++ take count (drop start suspects)) cycles xs) (sym is)
-    (zip_append (λ f number. IsCounted counts s (Some f) cycles number) (take start suspects) (take count (drop start suspects)) old more before own))
+    let size = length-drop start xs in
+    ap (λ i. take i (drop start xs)) e ∙ elim (cases_lt (length xs - start) 128) [
+      | inl less ↦ take_all count (drop start xs) (omega (arith, is, less, size)) ∙ sym (take_all 128 (drop start xs) (omega (arith, less, size)))
+      | inr full ↦ (let whole : count ≡ 128 = omega (arith, is, full) in ap (λ i. take i (drop start xs)) whole)
+    ]
+
+-- one batch more
+pub tally_more : (counts : Counting) (s : Netlist) (suspects batch : List Fault) (cycles : List Cycle) (start : ℕ) (old more new : List ℕ) → batch ≡ take 128 (drop start suspects)
+    → AreCounted counts s (take start suspects) cycles old → AreCounted counts s batch cycles more → new ≡ old ++ more → AreCounted counts s (take (start + 128) suspects) cycles new
+tally_more counts s suspects batch cycles start old more new next before own is =
+    subst (λ fs. AreCounted counts s fs cycles new) (sym (take_plus start 128 suspects))
+    (subst (λ xs. AreCounted counts s (take start suspects ++ take 128 (drop start suspects)) cycles xs) (sym is)
+    (zip_append (λ f number. IsCounted counts s (Some f) cycles number) (take start suspects) (take 128 (drop start suspects)) old more before (subst (λ fs. AreCounted counts s fs cycles more) next own)))
 
 pub tally_all : (counts : Counting) (s : Netlist) (suspects : List Fault) (cycles : List Cycle) (k : ℕ) (numbers : List ℕ) → length suspects ≤ k → AreCounted counts s (take k suspects) cycles numbers
     → AreCounted counts s suspects cycles numbers

@@ -1,6 +1,6 @@
 //! The cycles before the end of a log.
-ghost use Rattle.std.specs.Prelude.{◌≡◌, ◌≤◌, ◌<◌, ◌*◌, take, length, IfOk};
-ghost use Rattle.scan_play.specs.Bursts.{all_cycles, cycles_of};
+ghost use Rattle.std.specs.Prelude.{◌≡◌, ◌≤◌, ◌<◌, take, IfOk};
+ghost use Rattle.scan_play.specs.Bursts.{cycles_of};
 ghost use Rattle.diagnose.specs.Explaining.{told_cycles};
 
 use scan_play::{Burst, Vectors};

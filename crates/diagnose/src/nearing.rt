@@ -1,96 +1,85 @@
 //! The faults that come nearest to a log.
-ghost use Rattle.std.specs.Prelude.{◌≡◌, ◌^◌, ◌<◌, IfOk, length};
-ghost use Rattle.std.specs.List.{All};
-ghost use Rattle.netlist.specs.Lines.{signal_of};
-ghost use Rattle.statement.specs.declared.lines.Fault.{Fault as Stuck};
-ghost use Rattle.scan_insert.specs.Named.{HasTesterNames};
-ghost use Rattle.scan_play.specs.Cycles.{IsCycleOf};
-ghost use Rattle.diagnose.specs.Candidates.{IsScannedDesign};
+ghost use Rattle.std.specs.Prelude.{IfOk};
+ghost use Rattle.diagnose.specs.Candidates.{IsDiagnosable};
 ghost use Rattle.diagnose.specs.Explaining.{told_cycles};
-ghost use Rattle.diagnose.specs.Ranking.{IsRanking};
-ghost use Rattle.diagnose.specs.inner.Ranks.{AreClassTallies, AreDivided};
+ghost use Rattle.diagnose.specs.Ranking.{AreAllRanked, IsRanking};
+ghost use Rattle.diagnose.specs.inner.Marks.{AreStrobed};
+ghost use Rattle.diagnose.specs.inner.Ranks.{AreClassTallies};
 
 use crate::cutting::told;
-use crate::dividing::{Divided, divide};
+use crate::designs::ScannedDesign;
+use crate::dividing::divide;
 use crate::failures::{FailLog, FailureLines};
 use crate::laws::equivalent_runs;
 use crate::marking::marks_of;
-use crate::playing::all_suspects;
+use crate::playing::begun;
+use crate::plays::Play;
 use crate::ranks::Ranked;
 use crate::sorting::sorted;
+use crate::suspects::suspects_of;
 use crate::tallying::tallies;
-use fault_collapse::Classes;
-use fault_universe::{FaultSet, faults_have_lines, faults_have_signals};
+use fault_universe::faults_have_lines;
 use lane_play::Counts;
-use netlist::{Core, NoMemory};
-use outside::{Gate, Stage};
-use scan_insert::Scanned;
+use netlist::NoMemory;
+use outside::Gate;
 use scan_insert::laws::tester_names_differ;
 use scan_play::Vectors;
 use std::alloc::Global;
 
-/// The counts of all classes, over the failures that stand at strobes.
+/// The counts of all classes, over failures that stand at strobes.
 fn class_tallies<G: Gate>(
     alloc: Global,
     stage: &G,
-    core: &Core,
-    scanned: &Scanned,
-    classes: &Classes,
+    design: &ScannedDesign<'_>,
     vectors: &Vectors,
-    failures: &FailureLines,
-    divided: &Divided,
+    strobed: &FailureLines,
 ) -> Result<Counts, NoMemory>
-    requires names { HasTesterNames core.now }
-    requires signals { All (λ (f : Stuck). signal_of f.line < length scanned.now.sites) classes.now.representatives }
-    requires fits { All (IsCycleOf core.now) vectors.now }
-    requires few { length vectors.now < 2 ^ 64 }
-    requires divided { AreDivided core.now vectors.now failures.now divided.now.strobed divided.now.strangers }
-    ensures { IfOk result (λ t. AreClassTallies core.now scanned.now.sites vectors.now divided.now.strobed classes.now.representatives t.one.items t.other.items) }
+    requires design { IsDiagnosable design.now vectors.now }
+    requires strobed { AreStrobed design.now.core.now vectors.now strobed.now }
+    ensures { IfOk result (λ t. AreClassTallies design.now.core.now design.now.scanned.now.sites vectors.now strobed.now design.now.classes.now.representatives t.one.items t.other.items) }
 {
-    let Some(marks) = marks_of(alloc, core.netlist(), vectors, &divided.strobed)? else {
+    tester_names_differ();
+    let Some(marks) = marks_of(alloc, design.core.netlist(), vectors, strobed)? else {
         unreachable!();
     };
-    stage.at(
-        0,
-        Stage::Begun {
-            count: classes.count() as u64,
-        },
-    );
-    let suspects = all_suspects(alloc, scanned, classes)?;
-    let counts = tallies(alloc, stage, core, &suspects, vectors, &marks)?;
+    stage.at(0, begun(design.classes));
+    let suspects = suspects_of(alloc, design)?;
+    let play = Play {
+        alloc,
+        core: design.core,
+        suspects: suspects.as_slice(),
+        vectors,
+        marks: &marks,
+    };
+    let counts = tallies(&play, stage)?;
     Ok(counts)
 }
 
-/// The first faults in their order, over all cycles of the vectors.
-fn nearest<G: Gate>(
+/// All faults in their order, over all cycles of the vectors.
+fn all_ranked<G: Gate>(
     alloc: Global,
     stage: &G,
-    core: &Core,
-    scanned: &Scanned,
-    faults: &FaultSet,
-    classes: &Classes,
+    design: &ScannedDesign<'_>,
     vectors: &Vectors,
     failures: &FailureLines,
-    count: u64,
 ) -> Result<Vec<Ranked>, NoMemory>
-    requires design { IsScannedDesign scanned.now faults.now classes.now }
-    requires core { core.now ≡ scanned.now.netlist }
-    requires fits { All (IsCycleOf core.now) vectors.now }
-    requires few { length vectors.now < 2 ^ 64 }
-    ensures { IfOk result (λ r. IsRanking scanned.now faults.now vectors.now failures.now count r.items) }
+    requires { IsDiagnosable design.now vectors.now }
+    ensures { IfOk result (λ all. AreAllRanked design.now.scanned.now design.now.faults.now vectors.now failures.now all.items) }
 {
-    core.netlist().sound();
+    design.core.netlist().sound();
     tester_names_differ();
-    faults_have_signals();
     faults_have_lines();
     equivalent_runs();
-    let divided = divide(alloc, core.netlist(), vectors, failures)?;
-    let tallies = class_tallies(
-        alloc, stage, core, scanned, classes, vectors, failures, &divided,
-    )?;
+    let divided = divide(alloc, design.core.netlist(), vectors, failures)?;
+    let tallies = class_tallies(alloc, stage, design, vectors, &divided.strobed)?;
     let strangers = divided.strangers.len();
-    let mut list = sorted(alloc, faults.len(), classes, &tallies, strangers)?;
-    list.truncate(count as usize);
+    let list = sorted(
+        alloc,
+        design.faults.len(),
+        design.classes,
+        &tallies,
+        strangers,
+    )?;
     Ok(list)
 }
 
@@ -99,30 +88,16 @@ fn nearest<G: Gate>(
 pub fn ranking<G: Gate>(
     alloc: Global,
     stage: &G,
-    core: &Core,
-    scanned: &Scanned,
-    faults: &FaultSet,
-    classes: &Classes,
+    design: &ScannedDesign<'_>,
     vectors: Vectors,
     log: &FailLog,
     count: u64,
 ) -> Result<Vec<Ranked>, NoMemory>
-    requires design { IsScannedDesign scanned.now faults.now classes.now }
-    requires core { core.now ≡ scanned.now.netlist }
-    requires fits { All (IsCycleOf core.now) vectors }
-    requires few { length vectors < 2 ^ 64 }
-    ensures { IfOk result (λ r. IsRanking scanned.now faults.now (told_cycles log.now.end vectors) log.now.failures count r.items) }
+    requires { IsDiagnosable design.now vectors }
+    ensures { IfOk result (λ r. IsRanking design.now.scanned.now design.now.faults.now (told_cycles log.now.end vectors) log.now.failures count r.items) }
 {
     let told = told(alloc, vectors, log.end)?;
-    nearest(
-        alloc,
-        stage,
-        core,
-        scanned,
-        faults,
-        classes,
-        &told,
-        &log.failures,
-        count,
-    )
+    let mut list = all_ranked(alloc, stage, design, &told, &log.failures)?;
+    list.truncate(count as usize);
+    Ok(list)
 }

@@ -1,38 +1,32 @@
 //! How many strobes of each class contradict a log, in batches of 128.
-ghost use Rattle.std.specs.Prelude.{◌≡◌, ◌^◌, ◌<◌, ◌+◌, ◌*◌, IfOk, length, take};
-ghost use Rattle.std.specs.List.{All};
-ghost use Rattle.scan_play.specs.Cycles.{IsCycleOf};
-ghost use Rattle.diagnose.specs.inner.Marks.{mark_at};
-ghost use Rattle.diagnose.specs.inner.Ranks.{AreTallies};
+ghost use Rattle.std.specs.Prelude.{◌≡◌, ◌<◌, ◌≤◌, ◌+◌, IfOk, drop, length, take};
+ghost use Rattle.diagnose.specs.inner.Plays.{AreTalliesIn};
 
 use crate::against::Against;
-use crate::marks::Marks;
+use crate::plays::Play;
 use lane_play::{Counts, count_lanes};
-use netlist::{Core, Fault, NoMemory};
+use netlist::{Fault, NoMemory};
 use outside::{Gate, Stage};
-use scan_play::Vectors;
-use std::alloc::Global;
+
+/// The next 128 suspects, or as many as there are.
+fn batch_at(suspects: &[Fault], start: usize) -> &[Fault]
+    requires { start ≤ length suspects.now }
+    ensures batch { result.now ≡ take 128 (drop start suspects.now) }
+    ensures few { length result.now ≤ 128 }
+{
+    let count = (suspects.len() - start).min(128);
+    &suspects[start..start + count]
+}
 
 /// Plays the 128 suspects from one on, or as many as there are, to the end, and adds their counts.
-fn tally_batch(
-    alloc: Global,
-    core: &Core,
-    suspects: &[Fault],
-    vectors: &Vectors,
-    marks: &Marks,
-    start: usize,
-    tallies: Counts,
-) -> Result<Counts, NoMemory>
-    requires start { start < length suspects.now }
-    requires fits { All (IsCycleOf core.now) vectors.now }
-    requires few { length vectors.now < 2 ^ 64 }
-    requires old { AreTallies (mark_at marks.now.rows marks.now.width marks.now.table.items) core.now vectors.now (take start suspects.now) tallies.one.items tallies.other.items }
-    ensures { IfOk result (λ t. AreTallies (mark_at marks.now.rows marks.now.width marks.now.table.items) core.now vectors.now (take (start + 128) suspects.now) t.one.items t.other.items) }
+fn tally_batch(play: &Play<'_>, start: usize, tallies: Counts) -> Result<Counts, NoMemory>
+    requires start { start < length play.now.suspects.now }
+    requires old { AreTalliesIn play.now (take start play.now.suspects.now) tallies.one.items tallies.other.items }
+    ensures { IfOk result (λ t. AreTalliesIn play.now (take (start + 128) play.now.suspects.now) t.one.items t.other.items) }
 {
-    let left = suspects.len() - start;
-    let count = if left < 128 { left } else { 128 };
-    let batch = &suspects[start..start + count];
-    let counts = count_lanes(alloc, core, batch, vectors, &Against { marks })?;
+    let batch = batch_at(play.suspects, start);
+    let against = Against { marks: play.marks };
+    let counts = count_lanes(play.alloc, play.core, batch, play.vectors, &against)?;
     let Counts { mut one, mut other } = tallies;
     one.extend_from_slice(&counts.one)?;
     other.extend_from_slice(&counts.other)?;
@@ -48,26 +42,17 @@ fn tallied(left: usize) -> Stage {
 }
 
 /// The counts of all suspects.
-pub(crate) fn tallies<G: Gate>(
-    alloc: Global,
-    stage: &G,
-    core: &Core,
-    suspects: &[Fault],
-    vectors: &Vectors,
-    marks: &Marks,
-) -> Result<Counts, NoMemory>
-    requires fits { All (IsCycleOf core.now) vectors.now }
-    requires few { length vectors.now < 2 ^ 64 }
-    ensures { IfOk result (λ t. AreTallies (mark_at marks.now.rows marks.now.width marks.now.table.items) core.now vectors.now suspects.now t.one.items t.other.items) }
+pub(crate) fn tallies<G: Gate>(play: &Play<'_>, stage: &G) -> Result<Counts, NoMemory>
+    ensures { IfOk result (λ t. AreTalliesIn play.now play.now.suspects.now t.one.items t.other.items) }
 {
     let mut tallies = Counts {
-        one: Vec::new(alloc),
-        other: Vec::new(alloc),
+        one: Vec::new(play.alloc),
+        other: Vec::new(play.alloc),
     };
-    for batch in 0..suspects.len().div_ceil(128) {
+    for batch in 0..play.suspects.len().div_ceil(128) {
         let start = batch * 128;
-        tallies = tally_batch(alloc, core, suspects, vectors, marks, start, tallies)?;
-        stage.at(0, tallied(suspects.len() - start));
+        tallies = tally_batch(play, start, tallies)?;
+        stage.at(0, tallied(play.suspects.len() - start));
     }
     Ok(tallies)
 }

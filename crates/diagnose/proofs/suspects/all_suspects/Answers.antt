@@ -1,6 +1,6 @@
 use Rattle.std.proofs.Common.{◌<◌, length, arith}
 use Rattle.diagnose.proofs.Batches.{suspects_more}
-use Rattle.diagnose.proofs.playing.all_suspects.Goals as goal
+use Rattle.diagnose.proofs.suspects.all_suspects.Goals as goal
 
 pub loop-class-preserved : goal.loop-class-preserved
 loop-class-preserved c =
