@@ -1,5 +1,5 @@
 //! What the patterns detect that a run begins with.
-ghost use Rattle.std.specs.Prelude.{◌≡◌, ◌+◌, ◌<◌, ◌≤◌, ◌^◌, ℕ, IfOk, length, map};
+ghost use Rattle.std.specs.Prelude.{◌≡◌, ◌+◌, ◌<◌, ◌≤◌, ◌^◌, IfOk, length, map};
 ghost use Rattle.std.specs.Option.{is_some};
 ghost use Rattle.std.specs.List.{All};
 ghost use Rattle.cubes.specs.Cubes.{IsPatternOf};

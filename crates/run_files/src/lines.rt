@@ -1,5 +1,5 @@
 //! A line for each fault, by its class's verdict, where it is asked for.
-ghost use Rattle.std.specs.Prelude.{◌≡◌, ◌<◌, List, ℕ, IfOk, length, map};
+ghost use Rattle.std.specs.Prelude.{◌<◌, List, ℕ, IfOk, length};
 ghost use Rattle.std.specs.List.{All};
 ghost use Rattle.statement.specs.Netlists.{signals};
 ghost use Rattle.netlist.specs.Lines.{IsLineOf, signal_of};
@@ -81,7 +81,7 @@ fn add_line(
     requires line { IsLineOf netlist.now fault.line }
     requires signal { signal_of fault.line < length (signals netlist.now) }
     requires sound { IsOutcome said.outcome said.pin.now }
-    ensures { IfOk result (λ new. (chains : List (List ℕ)) (v : VerdictOf) → IsOutcomeOf netlist.now chains v said.outcome said.pin.now → IsAdded netlist.now chains fault v lines new) }
+    ensures { IfOk result (λ new. (chains : List (List ℕ)) (v : VerdictOf) → IsOutcomeOf netlist.now chains v said.entry.outcome said.entry.pin.now → IsAdded netlist.now chains fault v lines new) }
 {
     netlist.sound();
     text.clear();

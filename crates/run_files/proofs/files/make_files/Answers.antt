@@ -1,9 +1,6 @@
-use Rattle.std.proofs.Common.{Bool, List, subst, sym, refl, ◌∙◌, ap}
+use Rattle.std.proofs.Common.{Bool, List, subst}
 use Rattle.netlist.specs.Conditions.{IsSound}
-use Rattle.netlist.specs.Designs.{IsDesign}
-use Rattle.netlist.specs.Holds.{AreHoldsOf}
 use Rattle.statement.specs.Netlists.{Netlist}
-use Rattle.statement.specs.Faults.{universe_of}
 use Rattle.fault_collapse.specs.Classes.{AreClasses}
 use Rattle.good_files.specs.ScanOff.{design_chains}
 use Rattle.run_files.specs.Runs.{asked_by}

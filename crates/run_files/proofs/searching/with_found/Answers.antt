@@ -1,4 +1,4 @@
-use Rattle.std.proofs.Common.{◌≡◌, ◌∙◌, ◌≤◌, Bool, List, Option, length, ap, subst, sym, arith, length-append}
+use Rattle.std.proofs.Common.{◌∙◌, ◌≤◌, Bool, List, Option, length, ap, subst, sym, arith, length-append}
 use Rattle.statement.specs.declared.lines.Fault.{Fault}
 use Rattle.statement.specs.Patterns.{Pattern}
 use Rattle.word_sim.specs.Never.{unmarked}
