@@ -2,7 +2,7 @@
 use Rattle.std.proofs.Common.{◌≡◌, ℕ, zero, suc, ◌+◌, ◌<◌, ◌≤◌, ◌∙◌, List, [], ◌∷◌, ◌++◌, length, get_or, take, Some, ap, subst, sym}
 use Rattle.std.specs.List.{AllZip, slice_get}
 use Rattle.std.proofs.lemmas.List.{take_all, take_more}
-use Rattle.std.proofs.lemmas.Option.{get_or_from_slice_get, slice_get-get_or, slice_get_within}
+use Rattle.std.proofs.lemmas.Option.{get_or_from_slice_get, slice_get_within}
 use Rattle.std.proofs.lemmas.Slice.Zip.{AllZip-long, all_zipped_more}
 
 pub same_some : {X : Type 0} (x y : X) → Some x ≡ Some y → x ≡ y
@@ -28,10 +28,6 @@ module _ {A B : Type 0} (R : A → B → Type 0) (xs : List A) (k : ℕ) where
       subst (λ (zs : List B). AllZip R (take (k + 1) xs) zs) (sym added)
       (subst (λ (ws : List A). AllZip R ws (old ++ y ∷ [])) (sym (take_more xs k x lt ∙ ap (λ (a : A). take k xs ++ a ∷ []) (get_or_from_slice_get xs k x x at)))
       (all_zipped_more R (take k xs) old x y before is))
-
-  -- the element that is read
-  pub zip_next : (d : A) (y : B) (old new : List B) → k < length xs → R (get_or xs k d) y → new ≡ old ++ y ∷ [] → AllZip R (take k xs) old → AllZip R (take (k + 1) xs) new
-  zip_next d y old new lt is added before = zip_more (get_or xs k d) y old new (slice_get-get_or xs k d lt) is added before
 
   pub zip_all : (ys : List B) → length xs ≤ k → AllZip R (take k xs) ys → AllZip R xs ys
   zip_all ys end is = subst (λ (ws : List A). AllZip R ws ys) (take_all k xs end) is
