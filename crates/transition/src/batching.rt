@@ -8,24 +8,23 @@
 //! The alternative is a netlist for each line. What is made for a search then grows with the netlist, as the number of lines does, so that the time grows
 //! with the square of it, and nearly all of it goes into what is made. To rewire one line's frames for the next one saves less: readers, order and room
 //! have to be made anew.
-ghost use Rattle.std.specs.Prelude.{◌≡◌, ◌+◌, ◌≤◌, ◌<◌, ◌^◌, ◌↔◌, ℕ, length, IfOk, IsTrue};
-ghost use Rattle.std.specs.List.{All, AllPairs};
+ghost use Rattle.std.specs.Prelude.{◌≡◌, ◌+◌, ◌≤◌, ◌<◌, ◌↔◌, ℕ, length, IfOk, IfSome, IsTrue, Some};
+ghost use Rattle.std.specs.List.{All, slice_get};
 ghost use Rattle.netlist.specs.Designs.{IsDesign};
 ghost use Rattle.netlist.specs.Holds.{AreHoldsOf};
 ghost use Rattle.netlist.specs.Lines.{IsLineOf};
 ghost use Rattle.statement.specs.declared.lines.Fault.{Fault as FaultOf};
 ghost use Rattle.evidence.specs.declared.engine.Found.{Found as FoundOf};
-ghost use Rattle.transition_frames.specs.Frames.{frame_names as names_of};
+ghost use Rattle.evidence.specs.Answers.{HasEvidence};
 ghost use Rattle.transition_batches.specs.Batches.{AreApart, DecidesFrames, batch_fault, batch_of};
-ghost use Rattle.transition.specs.Searches.{AreFound, HasFrameEvidence};
-ghost use Rattle.transition.specs.inner.Gathered.{AreGathered};
+ghost use Rattle.transition.specs.inner.Asked.{AreAnswers, IsAnswer};
+ghost use Rattle.transition.specs.inner.Gathered.{AreGathered, AreTogether, MayJoin};
 
 use crate::own_frames::search_one;
-use crate::places::PlaceRule;
+use crate::tasks::Task;
 use evidence::{Engine, Found};
-use fault_universe::FaultSet;
-use netlist::{Core, Fault, Holds, Line, NameTable, Netlist, NoMemory, SignalId};
-use std::alloc::{AllocError, Global};
+use netlist::{Core, Fault, Line, Netlist, NoMemory, SignalId};
+use std::alloc::AllocError;
 use transition_batches::laws::batch_carries;
 use transition_batches::{MOST_FAULTS, are_apart, batch, decides_frames};
 
@@ -53,34 +52,50 @@ fn is_apart(netlist: &Netlist, taken: &[Fault], fault: &Fault) -> bool
     true
 }
 
+/// The fault at a place, where it may join those that are taken: it is left, has no answer yet, and goes with all of them.
+fn joining_fault<E: Engine>(
+    task: &Task<'_, E>,
+    taken: &[Fault],
+    place: usize,
+    slot: &Option<Option<Found>>,
+) -> Option<Fault>
+    requires taken { All (λ (f : FaultOf). IsLineOf task.now.netlist f.line) taken.now }
+    requires place { place < length task.now.faults }
+    ensures { IfSome result (MayJoin task.now taken.now place) }
+{
+    if slot.is_some() || !task.left[place] {
+        return None;
+    }
+    let fault = task.faults.fault(place as u32);
+    if is_apart(task.netlist, taken, &fault) {
+        Some(fault)
+    } else {
+        None
+    }
+}
+
 /// A batch of the faults from one place to another that are left and have no answer yet, with their places.
-pub(crate) fn gather(
-    alloc: Global,
-    netlist: &Netlist,
-    faults: &FaultSet,
-    left: &[bool],
+pub(crate) fn gather<E: Engine>(
+    task: &Task<'_, E>,
     first: usize,
     from: usize,
     to: usize,
     slots: &[Option<Option<Found>>],
 ) -> Result<(Vec<usize>, Vec<Fault>), AllocError>
-    requires lines { All (λ (f : FaultOf). IsLineOf netlist.now f.line) faults.now }
-    requires few { length faults.now < 2 ^ 32 }
-    requires left { length left.now ≡ length faults.now }
-    requires share { first + length slots.now ≤ length faults.now }
+    requires share { first + length slots.now ≤ length task.now.faults }
     requires within { to ≤ length slots.now }
-    ensures { IfOk result (λ r. AreGathered netlist.now faults.now left.now first (length slots.now) r.0.items r.1.items) }
+    ensures { IfOk result (λ r. AreGathered task.now first (length slots.now) r.0.items r.1.items) }
 {
-    let most = most_together(netlist);
-    let mut places = Vec::new(alloc);
-    let mut taken = Vec::new(alloc);
+    let most = most_together(task.netlist);
+    let mut places = Vec::new(task.alloc);
+    let mut taken = Vec::new(task.alloc);
     for k in from..to {
-        if taken.len() < most && left[first + k] && slots[k].is_none() {
-            let fault = faults.fault((first + k) as u32);
-            if is_apart(netlist, &taken, &fault) {
-                places.push(k)?;
-                taken.push(fault)?;
-            }
+        let place = first + k;
+        if taken.len() < most
+            && let Some(fault) = joining_fault(task, &taken, place, &slots[k])
+        {
+            places.push(k)?;
+            taken.push(fault)?;
         }
     }
     Ok((places, taken))
@@ -101,134 +116,110 @@ fn tie_fault(netlist: &Netlist, j: usize, fault: &Fault) -> Fault
 }
 
 /// Whether an answer of a batch keeps the engine's rule on its line's own frames, where the engine has one.
-fn keeps_rule(netlist: &Netlist, rule: Option<&PlaceRule>, fault: &Fault, found: &Found) -> bool
-    requires design { IsDesign netlist.now }
-    requires line { IsLineOf netlist.now fault.now.line }
+fn keeps_rule<E: Engine>(task: &Task<'_, E>, fault: &Fault, found: &Found) -> bool
+    requires { IsLineOf task.now.netlist fault.now.line }
 {
-    match rule {
-        Some(rule) => rule.keeps(netlist, fault, found),
+    match task.rule {
+        Some(rule) => rule.keeps(task.netlist, fault, found),
         None => true,
     }
 }
 
-/// What was found of a line in a batch, where that carries over to its own two frames; or else what is found on these.
-fn own_answer<E: Engine>(
-    alloc: Global,
-    netlist: &Netlist,
-    names: &NameTable,
-    engine: &E,
-    fault: Fault,
-    limit: u32,
-    rule: Option<&PlaceRule>,
-    found: Found,
-    holds: &Holds,
-) -> Result<Found, NoMemory>
-    requires design { IsDesign netlist.now }
-    requires names { names.now ≡ names_of netlist.now }
-    requires line { IsLineOf netlist.now fault.line }
-    requires limit { 1 ≤ limit }
-    requires holds { AreHoldsOf netlist.now holds.now }
-    requires carries { DecidesFrames netlist.now found → HasFrameEvidence netlist.now holds.now limit E.refutes fault found }
-    ensures { IfOk result (HasFrameEvidence netlist.now holds.now limit E.refutes fault) }
+/// Whether an answer of a batch stands on its line's own frames.
+fn stands_alone<E: Engine>(task: &Task<'_, E>, fault: &Fault, found: &Found) -> bool
+    requires { IsLineOf task.now.netlist fault.now.line }
+    ensures { IsTrue result → DecidesFrames task.now.netlist found.now }
 {
-    if decides_frames(netlist, &found) && keeps_rule(netlist, rule, &fault, &found) {
+    decides_frames(task.netlist, found) && keeps_rule(task, fault, found)
+}
+
+/// What was found of a line in a batch, where that carries over to its own two frames; or else what is found on these.
+fn own_answer<E: Engine>(task: &Task<'_, E>, fault: Fault, found: Found) -> Result<Found, NoMemory>
+    requires line { IsLineOf task.now.netlist fault.line }
+    requires carries { DecidesFrames task.now.netlist found → IsAnswer task.now fault found }
+    ensures { IfOk result (IsAnswer task.now fault) }
+{
+    if stands_alone(task, &fault, &found) {
         return Ok(found);
     }
-    search_one(alloc, netlist, names, engine, fault, limit, holds)
+    search_one(task, fault)
+}
+
+/// The answer for a line of a batch, by the stuck-at fault that makes it slow there, and the room back.
+fn search_tie<E: Engine>(
+    task: &Task<'_, E>,
+    core: &Core,
+    room: E::Room,
+    tie: Fault,
+    fault: Fault,
+) -> Result<(Found, E::Room), NoMemory>
+    requires holds { AreHoldsOf core.now task.now.holds }
+    requires room { E.serves core.now task.now.holds room }
+    requires tie { IsLineOf core.now tie.line }
+    requires line { IsLineOf task.now.netlist fault.line }
+    requires carries { (found : FoundOf) → HasEvidence tie core.now task.now.holds task.now.limit found → DecidesFrames task.now.netlist found → IsAnswer task.now fault found }
+    ensures answer { IfOk result (λ r. IsAnswer task.now fault r.0) }
+    ensures room { IfOk result (λ r. E.serves core.now task.now.holds r.1) }
+{
+    let (found, kept) = task
+        .engine
+        .search_in(task.alloc, room, core, tie, task.limit, task.holds)?;
+    let answer = own_answer(task, fault, found)?;
+    Ok((answer, kept))
 }
 
 /// Searches for the lines of a batch on its netlist.
 fn search_together<E: Engine>(
-    alloc: Global,
-    netlist: &Netlist,
-    names: &NameTable,
-    engine: &E,
+    task: &Task<'_, E>,
     core: &Core,
     slow: &[Fault],
-    limit: u32,
-    rule: Option<&PlaceRule>,
-    holds: &Holds,
 ) -> Result<Vec<Found>, NoMemory>
-    requires design { IsDesign netlist.now }
-    requires names { names.now ≡ names_of netlist.now }
-    requires lines { All (λ (f : FaultOf). IsLineOf netlist.now f.line) slow.now }
-    requires apart { AllPairs (AreApart netlist.now) slow.now }
-    requires few { length slow.now ≤ 1024 }
-    requires core { core.now ≡ batch_of netlist.now slow.now }
-    requires limit { 1 ≤ limit }
-    requires holds { AreHoldsOf netlist.now holds.now }
-    ensures { IfOk result (λ v. AreFound netlist.now holds.now limit E.refutes slow.now v.items) }
+    requires together { AreTogether task.now.netlist slow.now }
+    requires core { core.now ≡ batch_of task.now.netlist slow.now }
+    ensures { IfOk result (λ v. AreAnswers task.now slow.now v.items) }
 {
     batch_carries();
-    netlist.sound();
+    task.netlist.sound();
     core.netlist().sound();
-    let mut room = engine.room(alloc, core, holds)?;
-    let mut answers = Vec::with_capacity(alloc, slow.len())?;
+    let mut room = task.engine.room(task.alloc, core, task.holds)?;
+    let mut answers = Vec::with_capacity(task.alloc, slow.len())?;
     for j in 0..slow.len() {
         let fault = slow[j];
-        let tie = tie_fault(netlist, j, &fault);
-        let (found, kept) = engine.search_in(alloc, room, core, tie, limit, holds)?;
+        let tie = tie_fault(task.netlist, j, &fault);
+        let (answer, kept) = search_tie(task, core, room, tie, fault)?;
         room = kept;
-        answers.push(own_answer(
-            alloc, netlist, names, engine, fault, limit, rule, found, holds,
-        )?)?;
+        answers.push(answer)?;
     }
     Ok(answers)
 }
 
 /// Searches for each of these lines on its own two frames.
-fn search_each<E: Engine>(
-    alloc: Global,
-    netlist: &Netlist,
-    names: &NameTable,
-    engine: &E,
-    slow: &[Fault],
-    limit: u32,
-    holds: &Holds,
-) -> Result<Vec<Found>, NoMemory>
-    requires design { IsDesign netlist.now }
-    requires names { names.now ≡ names_of netlist.now }
-    requires lines { All (λ (f : FaultOf). IsLineOf netlist.now f.line) slow.now }
-    requires limit { 1 ≤ limit }
-    requires holds { AreHoldsOf netlist.now holds.now }
-    ensures { IfOk result (λ v. AreFound netlist.now holds.now limit E.refutes slow.now v.items) }
+fn search_each<E: Engine>(task: &Task<'_, E>, slow: &[Fault]) -> Result<Vec<Found>, NoMemory>
+    requires { All (λ (f : FaultOf). IsLineOf task.now.netlist f.line) slow.now }
+    ensures { IfOk result (λ v. AreAnswers task.now slow.now v.items) }
 {
-    let mut answers = Vec::with_capacity(alloc, slow.len())?;
+    let mut answers = Vec::with_capacity(task.alloc, slow.len())?;
     for fault in slow {
-        answers.push(search_one(alloc, netlist, names, engine, *fault, limit, holds)?)?;
+        answers.push(search_one(task, *fault)?)?;
     }
     Ok(answers)
 }
 
 /// One answer for each line of a batch, in order, with its evidence on the two frames in which it alone is slow.
 pub(crate) fn search_batch<E: Engine>(
-    alloc: Global,
-    netlist: &Netlist,
-    names: &NameTable,
-    engine: &E,
+    task: &Task<'_, E>,
     slow: &[Fault],
-    limit: u32,
-    rule: Option<&PlaceRule>,
-    holds: &Holds,
 ) -> Result<Vec<Found>, NoMemory>
-    requires design { IsDesign netlist.now }
-    requires names { names.now ≡ names_of netlist.now }
-    requires lines { All (λ (f : FaultOf). IsLineOf netlist.now f.line) slow.now }
-    requires apart { AllPairs (AreApart netlist.now) slow.now }
-    requires few { length slow.now ≤ 1024 }
-    requires limit { 1 ≤ limit }
-    requires holds { AreHoldsOf netlist.now holds.now }
-    ensures { IfOk result (λ v. AreFound netlist.now holds.now limit E.refutes slow.now v.items) }
+    requires { AreTogether task.now.netlist slow.now }
+    ensures { IfOk result (λ v. AreAnswers task.now slow.now v.items) }
 {
-    match batch(alloc, netlist, slow)? {
+    match batch(task.alloc, task.netlist, slow)? {
         Some(made) => {
-            let Ok(core) = Core::of(alloc, made) else {
+            let Ok(core) = Core::of(task.alloc, made) else {
                 return Err(NoMemory);
             };
-            search_together(
-                alloc, netlist, names, engine, &core, slow, limit, rule, holds,
-            )
+            search_together(task, &core, slow)
         }
-        None => search_each(alloc, netlist, names, engine, slow, limit, holds),
+        None => search_each(task, slow),
     }
 }

@@ -1,48 +1,31 @@
-use Rattle.std.proofs.Common.{◌≡◌, ◌<◌, ◌∙◌, ◌∷◌, ◌++◌, [], List, length, get_or, ap, sym, subst, arith, append_assoc, length-append}
-use Rattle.std.proofs.lemmas.List.{get_or_default}
+use Rattle.std.proofs.Common.{◌<◌, ℕ, List, length, sym, subst, rules}
+use Rattle.std.specs.List.{AllZip}
+use Rattle.statement.specs.declared.lines.Fault.{Fault}
 use Rattle.evidence.specs.declared.engine.Found.{Found}
-use Rattle.transition.specs.Searches.{AreFound}
-use Rattle.transition.proofs.BatchLemmas.{one_answered, place_within}
+use Rattle.transition.specs.inner.Asked.{AreAnswers}
+use Rattle.transition.specs.inner.Gathered.{AreTogether, IsSlotOf}
+use Rattle.transition.proofs.BatchLemmas.{answers_in, slots_within}
 use Rattle.transition.proofs.searching.answer_batch.Goals as goal
 
-pub index-requires : goal.index-requires
-index-requires g c =
-    let i = c.loop-answer.invariant in
-    let here = subst (λ (xs : List Found). AreFound c.args.netlist.now c.args.holds.now c.args.limit g.E.Engine.refutes c.in_ok-places.slow.items (c.loop-answer.yielded ++ xs)) c.in-Some.ensures.steps.0 i.found in
-    let t = place_within c.args.netlist.now c.args.holds.now c.args.limit g.E.Engine.refutes c.args.faults.now c.args.left.now c.args.first (length c.args.slots.now) c.in_ok-places.places.items c.in_ok-places.slow.items
-    c.loop-answer.yielded c.in-Some.answer c.next.new.self.rest.items c.in_ok-places.ensures.each here in
-    let l = t.0 in
-    let p = i.place in
-    let s = c.in_ok-places.places.ok.0 in
-    omega arith
+pub search_batch-requires : goal.search_batch-requires
+search_batch-requires g c = (search rules, subst (AreTogether c.args.task.now.netlist) (sym c.deref.ensures.value) c.in_ok-places.ensures.together)
 
-pub put-requires : goal.put-requires
-put-requires g c =
-    let i = c.loop-answer.invariant in
-    let here = subst (λ (xs : List Found). AreFound c.args.netlist.now c.args.holds.now c.args.limit g.E.Engine.refutes c.in_ok-places.slow.items (c.loop-answer.yielded ++ xs)) c.in-Some.ensures.steps.0 i.found in
-    let t = place_within c.args.netlist.now c.args.holds.now c.args.limit g.E.Engine.refutes c.args.faults.now c.args.left.now c.args.first (length c.args.slots.now) c.in_ok-places.places.items c.in_ok-places.slow.items
-    c.loop-answer.yielded c.in-Some.answer c.next.new.self.rest.items c.in_ok-places.ensures.each here in
-    let within : length c.loop-answer.yielded < length c.in_ok-places.places.items = t.0 in
-    let at : c.index.result.now ≡ get_or c.in_ok-places.places.items (length c.loop-answer.yielded) 0 =
-    c.index.ensures ∙ (ap (λ k. get_or c.in_ok-places.places.items k c.index.result.now) i.place
-    ∙ get_or_default c.in_ok-places.places.items (length c.loop-answer.yielded) c.index.result.now 0 within) in
-    let low = t.1 in
-    let size = i.count in
-    omega arith
+pub put_all-requires : goal.put_all-requires
+put_all-requires g c =
+    let a = c.args.task.now in
+    let count = length c.args.slots.now in
+    subst (λ (ks : List ℕ). AllZip (λ k (x : Found). k < count) ks c.in_ok-found.found.items) (sym c.deref-2.ensures.value)
+    (slots_within a c.args.first count c.in_ok-places.places.items c.in_ok-places.slow.items c.in_ok-found.found.items c.in_ok-places.ensures.each
+    (subst (λ (fs : List Fault). AreAnswers a fs c.in_ok-found.found.items) c.deref.ensures.value c.in_ok-found.ensures))
 
-pub loop-answer-preserved : goal.loop-answer-preserved
-loop-answer-preserved g c =
-    let i = c.loop-answer.invariant in
-    let here = subst (λ (xs : List Found). AreFound c.args.netlist.now c.args.holds.now c.args.limit g.E.Engine.refutes c.in_ok-places.slow.items (c.loop-answer.yielded ++ xs)) c.in-Some.ensures.steps.0 i.found in
-    let t = place_within c.args.netlist.now c.args.holds.now c.args.limit g.E.Engine.refutes c.args.faults.now c.args.left.now c.args.first (length c.args.slots.now) c.in_ok-places.places.items c.in_ok-places.slow.items
-    c.loop-answer.yielded c.in-Some.answer c.next.new.self.rest.items c.in_ok-places.ensures.each here in
-    let at : c.index.result.now ≡ get_or c.in_ok-places.places.items (length c.loop-answer.yielded) 0 =
-    c.index.ensures ∙ (ap (λ k. get_or c.in_ok-places.places.items k c.index.result.now) i.place
-    ∙ get_or_default c.in_ok-places.places.items (length c.loop-answer.yielded) c.index.result.now 0 t.0) in
-    record {
-      count = c.put.auto.slots ∙ i.count;
-      each = one_answered c.args.netlist.now c.args.holds.now c.args.limit g.E.Engine.refutes c.args.faults.now c.args.left.now c.args.first (length c.args.slots.now) c.in_ok-places.places.items c.in_ok-places.slow.items
-          c.loop-answer.yielded c.in-Some.answer c.next.new.self.rest.items c.loop-answer.slots c.put.new.slots c.index.result.now c.in_ok-places.ensures.each here i.count at c.put.ensures i.each;
-      place = simp length-append (omega (arith, i.place));
-      found = subst (AreFound c.args.netlist.now c.args.holds.now c.args.limit g.E.Engine.refutes c.in_ok-places.slow.items) (sym (append_assoc c.loop-answer.yielded (c.in-Some.answer ∷ []) c.next.new.self.rest.items)) here;
-    }
+pub returns : goal.returns
+returns g c =
+    let a = c.args.task.now in
+    let count = length c.args.slots.now in
+    let places = c.deref-2.result.now in
+    let slow = c.in_ok-places.slow.items in
+    let found = c.in_ok-found.found.items in
+    let stored = answers_in a c.args.first c.args.slots.now places slow found c.put_all.new.slots c.put_all.ensures
+    (subst (λ (ks : List ℕ). AllZip (IsSlotOf a c.args.first count) ks slow) (sym c.deref-2.ensures.value) c.in_ok-places.ensures.each)
+    (subst (λ (fs : List Fault). AreAnswers a fs found) c.deref.ensures.value c.in_ok-found.ensures) c.requires.each in
+    record { count = stored.0; each = stored.1 }

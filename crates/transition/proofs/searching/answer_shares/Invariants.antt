@@ -5,5 +5,5 @@ use Rattle.transition.proofs.searching.answer_shares.Given as goal
 abbrev pub invariant-loop-k : goal.invariant-loop-k
 invariant-loop-k g l = record {
   count : length l.slots ≡ length l.initial.slots;
-  each : AreAnswersFrom l.netlist l.holds l.limit g.E.Engine.refutes l.faults l.left l.first l.slots;
+  each : AreAnswersFrom l.task l.first l.slots;
 }

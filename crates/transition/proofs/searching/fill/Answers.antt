@@ -7,16 +7,9 @@ for_each_chunk_mut-requires-clause-accepts g c κs within start p chunk =
     let size = c.requires.size in
     let inside = chunk.in_bounds in (
       (
-        c.requires.design,
-        c.requires.names,
-        c.requires.lines,
-        c.requires.holds,
-        c.requires.limit,
-        c.requires.few,
-        c.requires.left,
         c.share_size-size.ensures,
         omega arith,
-        chunk_answers c.args.netlist.now c.args.holds.now c.args.limit g.E.Engine.refutes c.args.faults.now c.args.left.now _ start p.now c.requires.each chunk.in_bounds chunk.elements,
+        chunk_answers c.args.task.now _ start p.now c.requires.each chunk.in_bounds chunk.elements,
       ),
       search rules,
     )
@@ -26,5 +19,5 @@ returns-clause-each g c i l =
     let kept = c.for_each_chunk_mut.auto.s in
     let inside : i < length c.args.slots.now = omega arith in
     let r = (c.for_each_chunk_mut.ensures.by_index i None inside).1 in
-    answer_back c.args.netlist.now c.args.holds.now c.args.limit g.E.Engine.refutes c.args.faults.now c.args.left.now r.start r.offset i r.after_call.now (get_or c.for_each_chunk_mut.new.s i None) r.call.1
+    answer_back c.args.task.now r.start r.offset i r.after_call.now (get_or c.for_each_chunk_mut.new.s i None) r.call.1
     (let low = r.offset_in_chunk in let same = r.call.0 in omega arith) r.start_plus_offset r.new_element
