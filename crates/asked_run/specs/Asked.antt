@@ -4,6 +4,8 @@ use Rattle.bench_text.specs.Bytes.{lines}
 use Rattle.bench_text.specs.declared.refusal.Names.TheVariants.{Design}
 use Rattle.statement.specs.Benches.{Text}
 use Rattle.statement.specs.Netlists.{Netlist}
+use Rattle.netlist.specs.Designs.{IsDesign}
+use Rattle.netlist.specs.Holds.{AreHoldsOf}
 use Rattle.statement.specs.Faults.{universe_of}
 use Rattle.statement.specs.Patterns.{Holds, Pattern}
 use Rattle.statement.specs.Stils.{StilFile}
@@ -15,6 +17,7 @@ use Rattle.stil_patterns.specs.Applied.{applied_in}
 use Rattle.fault_marks.specs.Marks.{AreMarks, IsFirstStranger}
 use Rattle.run_files.specs.Runs.{Asked, IsRun, files_of}
 use Rattle.run_files.specs.declared.files.RunFiles.{RunFiles}
+use Rattle.command_line.specs.CommandLine.{AreInRunRange}
 use Rattle.command_line.specs.HoldLists.{HoldItem}
 use Rattle.command_line.specs.declared.requests.RunOptions.{RunOptions}
 use Rattle.commands.specs.Due.{Due, Deliver}
@@ -138,6 +141,13 @@ pub record IsWanted (n : Netlist) (holds : Holds) (w : Wanted) : Type 0 where
   pub faults : length w.faults.items ≡ length (universe_of n)
   pub first : All (IsPatternOf n holds) w.first.items
   pub few : length w.first.items < 2 ^ 27
+
+-- a design with held inputs of its own, options in their ranges, and what is asked for of it
+pub record MayAsk (n : Netlist) (holds : Holds) (options : RunOptions) (w : Wanted) : Type 0 where
+  pub design : IsDesign n
+  pub held : AreHoldsOf n holds
+  pub range : AreInRunRange options
+  pub wanted : IsWanted n holds w
 
 -- the plan of a run
 abbrev pub plan_of : RunOptions → RunPlan

@@ -1,8 +1,6 @@
 //! `run`: the five files of a file's netlist.
 ghost use Rattle.std.specs.Prelude.{◌≡◌, ◌≤◌, false, true, IfOk, None, length, map, option_map};
 ghost use Rattle.std.specs.List.{All};
-ghost use Rattle.netlist.specs.Designs.{IsDesign};
-ghost use Rattle.netlist.specs.Holds.{AreHoldsOf};
 ghost use Rattle.commands.specs.Contents.{most_bytes};
 ghost use Rattle.commands.specs.Names.{run_files, texts_of};
 ghost use Rattle.commands.specs.Rows.{CommandRow};
@@ -11,7 +9,7 @@ ghost use Rattle.commands.specs.World.{world};
 ghost use Rattle.commands.specs.declared.ending.Finding.TheVariants.{Fine};
 ghost use Rattle.command_line.specs.CommandLine.{AreInRunRange, hold_of, run_reads};
 ghost use Rattle.run_files.specs.Runs.{IsRun, asked_by};
-ghost use Rattle.asked_run.specs.Asked.{asked_of, made_due, ordered_run_due, run_due, texts_made, with_chains, IsWanted, plan_of};
+ghost use Rattle.asked_run.specs.Asked.{asked_of, made_due, ordered_run_due, run_due, texts_made, with_chains, MayAsk, plan_of};
 ghost use Rattle.command_steps.specs.Runs.{tests_line};
 ghost use Rattle.asked_run.specs.inner.Asking.{HaveCount, IsReady};
 
@@ -29,6 +27,25 @@ use run_files::{RunFiles, RunPlan, Wanted, make_files};
 use std::alloc::{AllocError, Global};
 use std::sync::Wait;
 use std::thread::Threads;
+use worker::Errand;
+
+/// What a run is given, whichever engine searches: threads, memory, the netlist with its held inputs, and where it passes.
+#[derive(Drop)]
+pub struct Task<'a, G: Gate, R> {
+    pub rt: &'a R,
+    pub alloc: Global,
+    pub core: &'a Core,
+    pub holds: &'a Holds,
+    pub stage: &'a G,
+}
+
+/// What the words of `run` ask for: the files that they name, the options, and the inputs that are held.
+#[derive(Clone, Copy)]
+pub struct RunWords<'a, 'h> {
+    pub names: RunNames<'a>,
+    pub options: RunOptions,
+    pub named: &'h [Held<'h>],
+}
 
 /// What is written and shown of a run.
 fn product_by(alloc: Global, made: RunFiles) -> Result<Product, AllocError>
@@ -67,138 +84,98 @@ fn plan_of(options: RunOptions) -> RunPlan
 
 /// The five files, as this engine finds them.
 fn made_by<R: Threads + Wait + Sync, E: Engine + Sync, G: Gate + Sync>(
-    rt: &R,
-    alloc: Global,
-    core: &Core,
+    task: &Task<'_, G, R>,
     engine: &E,
     options: RunOptions,
-    holds: &Holds,
     wanted: Wanted,
-    stage: &G,
 ) -> Result<RunFiles, NoMemory>
-    requires design { IsDesign core.now }
-    requires range { AreInRunRange options }
-    requires held { AreHoldsOf core.now holds.now }
-    requires wanted { IsWanted core.now holds.now wanted }
-    ensures { IfOk result (IsRun core.now (asked_by (plan_of options) wanted holds.now E.refutes)) }
+    requires { MayAsk task.now.core.now task.now.holds.now options wanted }
+    ensures { IfOk result (IsRun task.now.core.now (asked_by (plan_of options) wanted task.now.holds.now E.refutes)) }
 {
-    make_files(
-        rt,
-        alloc,
-        core,
-        plan_of(options),
+    let errand = Errand {
+        rt: task.rt,
+        alloc: task.alloc,
+        core: task.core,
         engine,
-        holds,
-        wanted,
-        stage,
-    )
+        stage: task.stage,
+        holds: task.holds,
+    };
+    make_files(&errand, plan_of(options), wanted)
 }
 
 /// The five files, by a tree of decisions for each class.
 pub fn by_trees<R: Threads + Wait + Sync, G: Gate + Sync>(
-    rt: &R,
-    alloc: Global,
-    core: &Core,
+    task: &Task<'_, G, R>,
     engine: TreeEngine,
     options: RunOptions,
-    holds: &Holds,
     wanted: Wanted,
-    stage: &G,
 ) -> Result<RunFiles, NoMemory>
-    requires design { IsDesign core.now }
-    requires range { AreInRunRange options }
-    requires held { AreHoldsOf core.now holds.now }
-    requires wanted { IsWanted core.now holds.now wanted }
-    ensures { IfOk result (IsRun core.now (asked_by (plan_of options) wanted holds.now false)) }
+    requires { MayAsk task.now.core.now task.now.holds.now options wanted }
+    ensures { IfOk result (IsRun task.now.core.now (asked_by (plan_of options) wanted task.now.holds.now false)) }
 {
     match engine {
         TreeEngine::Podem => {
-            let podem = Podem::of(alloc, core)?;
-            made_by(rt, alloc, core, &podem, options, holds, wanted, stage)
+            let podem = Podem::of(task.alloc, task.core)?;
+            made_by(task, &podem, options, wanted)
         }
         TreeEngine::Fan => {
-            let fan = Fan::of(alloc, core)?;
-            made_by(rt, alloc, core, &fan, options, holds, wanted, stage)
+            let fan = Fan::of(task.alloc, task.core)?;
+            made_by(task, &fan, options, wanted)
         }
     }
 }
 
 /// The five files, by clauses that are learned.
 fn by_clauses<R: Threads + Wait + Sync, G: Gate + Sync>(
-    rt: &R,
-    alloc: Global,
-    core: &Core,
+    task: &Task<'_, G, R>,
     options: RunOptions,
-    holds: &Holds,
     wanted: Wanted,
-    stage: &G,
 ) -> Result<RunFiles, NoMemory>
-    requires design { IsDesign core.now }
-    requires range { AreInRunRange options }
-    requires held { AreHoldsOf core.now holds.now }
-    requires wanted { IsWanted core.now holds.now wanted }
-    ensures { IfOk result (IsRun core.now (asked_by (plan_of options) wanted holds.now true)) }
+    requires { MayAsk task.now.core.now task.now.holds.now options wanted }
+    ensures { IfOk result (IsRun task.now.core.now (asked_by (plan_of options) wanted task.now.holds.now true)) }
 {
-    let clauses = Clauses::of(alloc, core)?;
-    made_by(rt, alloc, core, &clauses, options, holds, wanted, stage)
+    let clauses = Clauses::of(task.alloc, task.core)?;
+    made_by(task, &clauses, options, wanted)
 }
 
 /// The five files, by a tree of decisions for each class, or, where the search gives up, by clauses.
 fn by_trees_then_clauses<R: Threads + Wait + Sync, G: Gate + Sync>(
-    rt: &R,
-    alloc: Global,
-    core: &Core,
+    task: &Task<'_, G, R>,
     engine: TreeEngine,
     options: RunOptions,
-    holds: &Holds,
     wanted: Wanted,
-    stage: &G,
 ) -> Result<RunFiles, NoMemory>
-    requires design { IsDesign core.now }
-    requires range { AreInRunRange options }
-    requires held { AreHoldsOf core.now holds.now }
-    requires wanted { IsWanted core.now holds.now wanted }
-    ensures { IfOk result (IsRun core.now (asked_by (plan_of options) wanted holds.now true)) }
+    requires { MayAsk task.now.core.now task.now.holds.now options wanted }
+    ensures { IfOk result (IsRun task.now.core.now (asked_by (plan_of options) wanted task.now.holds.now true)) }
 {
-    let second = Clauses::of(alloc, core)?;
+    let second = Clauses::of(task.alloc, task.core)?;
     let few = options.numbers.limit;
     match engine {
         TreeEngine::Podem => {
-            let first = Podem::of(alloc, core)?;
-            let both = Then { first, few, second };
-            made_by(rt, alloc, core, &both, options, holds, wanted, stage)
+            let first = Podem::of(task.alloc, task.core)?;
+            made_by(task, &Then { first, few, second }, options, wanted)
         }
         TreeEngine::Fan => {
-            let first = Fan::of(alloc, core)?;
-            let both = Then { first, few, second };
-            made_by(rt, alloc, core, &both, options, holds, wanted, stage)
+            let first = Fan::of(task.alloc, task.core)?;
+            made_by(task, &Then { first, few, second }, options, wanted)
         }
     }
 }
 
 /// The five files, as the engine that was asked for finds them.
 fn made_of<R: Threads + Wait + Sync, G: Gate + Sync>(
-    rt: &R,
-    alloc: Global,
-    core: &Core,
+    task: &Task<'_, G, R>,
     options: RunOptions,
-    holds: &Holds,
     wanted: Wanted,
-    stage: &G,
 ) -> Result<RunFiles, NoMemory>
-    requires design { IsDesign core.now }
-    requires range { AreInRunRange options }
-    requires held { AreHoldsOf core.now holds.now }
-    requires wanted { IsWanted core.now holds.now wanted }
-    ensures { IfOk result (IsRun core.now (asked_of options holds.now wanted.faults.items wanted.first.items)) }
+    requires { MayAsk task.now.core.now task.now.holds.now options wanted }
+    ensures { IfOk result (IsRun task.now.core.now (asked_of options task.now.holds.now wanted.faults.items wanted.first.items)) }
 {
     match options.engine {
-        EngineName::Trees(engine) => {
-            by_trees(rt, alloc, core, engine, options, holds, wanted, stage)
-        }
-        EngineName::Clauses => by_clauses(rt, alloc, core, options, holds, wanted, stage),
+        EngineName::Trees(engine) => by_trees(task, engine, options, wanted),
+        EngineName::Clauses => by_clauses(task, options, wanted),
         EngineName::TreesThenClauses(engine) => {
-            by_trees_then_clauses(rt, alloc, core, engine, options, holds, wanted, stage)
+            by_trees_then_clauses(task, engine, options, wanted)
         }
     }
 }
@@ -220,7 +197,14 @@ fn run_case<R: Threads + Wait + Sync, G: Gate + Sync>(
         holds,
         wanted,
     } = case;
-    let Ok(made) = made_of(rt, alloc, &core, options, &holds, wanted, stage) else {
+    let task = Task {
+        rt,
+        alloc,
+        core: &core,
+        holds: &holds,
+        stage,
+    };
+    let Ok(made) = made_of(&task, options, wanted) else {
         return Err(Stop::NoMemory);
     };
     match product_by(alloc, made) {
@@ -294,16 +278,19 @@ pub fn run_netlist<'a, R: Threads + Wait + Sync, S: Shelf, T: Sink, G: Gate + Sy
     shelf: &mut S,
     out: &mut T,
     stage: &G,
-    names: RunNames<'a>,
-    options: RunOptions,
-    named: &[Held<'_>],
+    words: RunWords<'a, '_>,
 ) -> Ending<'a, Refusal>
-    requires { AreInRunRange options }
-    ensures { CommandRow (run_reads names.entry.net.now (option_map (λ t. t.now) names.entry.order) (option_map (λ t. t.now) names.entry.list) (option_map (λ t. t.now) names.entry.first)) (run_files names.entry.prefix.now)
-        (ordered_run_due (option_map (λ t. t.now) names.entry.order) (option_map (λ t. t.now) names.entry.list) (option_map (λ t. t.now) names.entry.first) options (map hold_of named.now))
+    requires { AreInRunRange words.options }
+    ensures { CommandRow (run_reads words.entry.names.net.now (option_map (λ t. t.now) words.entry.names.order) (option_map (λ t. t.now) words.entry.names.list) (option_map (λ t. t.now) words.entry.names.first)) (run_files words.entry.names.prefix.now)
+        (ordered_run_due (option_map (λ t. t.now) words.entry.names.order) (option_map (λ t. t.now) words.entry.names.list) (option_map (λ t. t.now) words.entry.names.first) words.options (map hold_of words.named.now))
         (world (S.files shelf.old) (S.failures shelf.old) (T.taken out.old) (T.failures out.old))
         (world (S.files shelf.new) (S.failures shelf.new) (T.taken out.new) (T.failures out.new)) result }
 {
+    let RunWords {
+        names,
+        options,
+        named,
+    } = words;
     let writes = file_names(names.prefix);
     let reads = match run_reads(alloc, names) {
         Ok(reads) => reads,

@@ -17,15 +17,15 @@ returns g c =
     let taken = g.T.Sink.taken c.args.out.now in
     let unwritten = g.T.Sink.failures c.args.out.now in
     let after = world (g.S.Shelf.files c.deliver.new.shelf) (g.S.Shelf.failures c.deliver.new.shelf) (g.T.Sink.taken c.deliver.new.out) (g.T.Sink.failures c.deliver.new.out) in
-    let order = option_map (λ t. t.now) c.args.names.order in
-    let list = option_map (λ t. t.now) c.args.names.list in
-    let first = option_map (λ t. t.now) c.args.names.first in
-    let due = ordered_run_due order list first c.args.options (map hold_of c.args.named.now) in
+    let order = option_map (λ t. t.now) c.args.words.names.order in
+    let list = option_map (λ t. t.now) c.args.words.names.list in
+    let first = option_map (λ t. t.now) c.args.words.names.first in
+    let due = ordered_run_due order list first c.args.words.options (map hold_of c.args.words.named.now) in
     let reads = file_names_of c.as_slice.result.now in
     let writes = file_names_of c.file_names-writes.result in
     let read = c.in-Ok-read_in_order.ensures in
     let row = command_row reads writes due files failures (g.S.Shelf.files c.read_in_order.new.shelf) (g.S.Shelf.failures c.read_in_order.new.shelf) taken unwritten after
     (texts_of c.in-Ok-read_in_order.texts.items) 5 c.ordered_work-worked.result c.deliver.result read.0 read.1 read.2 c.ordered_work-worked.ensures c.deliver.ensures in
-    row_at reads (run_reads c.args.names.net.now order list first) writes (run_files c.args.names.prefix.now) due (world files failures taken unwritten) after c.deliver.result
+    row_at reads (run_reads c.args.words.names.net.now order list first) writes (run_files c.args.words.names.prefix.now) due (world files failures taken unwritten) after c.deliver.result
     (ap file_names_of c.as_slice.ensures.value ∙ c.in-Ok.ensures)
     c.file_names-writes.ensures row
