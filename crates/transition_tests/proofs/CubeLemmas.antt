@@ -30,7 +30,7 @@ use Rattle.transition_tests.specs.inner.Cubes.{HasAgreeing}
 -- ---- the cubes of answers
 
 -- a cube of the two frames is one of the netlist
-frame_cube : (n : Netlist) (holds : Holds) (f : Fault) (c : Cube) → IsCubeOf (frames_of n f) holds c → IsCubeOf n holds c
+pub frame_cube : (n : Netlist) (holds : Holds) (f : Fault) (c : Cube) → IsCubeOf (frames_of n f) holds c → IsCubeOf n holds c
 frame_cube n holds f c is = record {
   inputs = is.inputs;
   cells = is.cells ∙ (ap length (cells_framed n f) ∙ length-map (cells n) (in_first n f));
@@ -68,11 +68,10 @@ pub few_faults : (n : Netlist) → IsSound n → IsDesign n → length (universe
 few_faults n sound design = let b = fault_bound n sound in let s = design.small in omega arith
 
 -- behind the batch patterns are no more than cubes, and so than faults
-pub few_patterns : (faults : List Fault) (found : List (Option Found)) (cubes : List Cube) (batch patterns : List Pattern) → length found ≡ length faults
-    → length faults ≤ most_design_faults → cubes ≡ cubes_in found → length batch ≤ length faults + 64 → length patterns ≤ length batch + length cubes → length patterns + 64 ≤ 2 ^ 32
-few_patterns faults found cubes batch patterns size few is small fewer =
+pub few_patterns : (faults : List Fault) (found : List (Option Found)) (batch patterns : List Pattern) → length found ≡ length faults → length faults ≤ most_design_faults
+    → length batch ≤ length faults + 64 → length patterns ≤ length batch + length (cubes_in found) → length patterns + 64 ≤ 2 ^ 32
+few_patterns faults found batch patterns size few small fewer =
     let count = few_cubes found in
-    let same = ap length is in
     omega arith
 
 -- the cubes of the other answers stand among all

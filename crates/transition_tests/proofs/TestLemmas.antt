@@ -27,12 +27,11 @@ use Rattle.transition_sim.proofs.Answering.{test_detects_transition}
 use Rattle.transition_sim.proofs.LastTold.{to_frames, from_frames}
 use Rattle.transition_tests.specs.declared.verdicts.TransitionVerdict.{TransitionVerdict}
 use Rattle.transition_tests.specs.Batches.{AreLeftBy, IsLeftBy}
-use Rattle.transition_tests.specs.Verdicts.{AreTests, IsNeededForTransitions, IsVerdict, MayHave}
-use Rattle.transition_tests.specs.inner.Answers.{IsKnown}
+use Rattle.transition_tests.specs.Verdicts.{AreKnown, AreTests, IsKnown, IsNeededForTransitions, IsVerdict, MayHave}
 use Rattle.transition_tests.specs.Making.{AreFilledFrom, AreMadeFrom, cubes_in}
 use Rattle.transition_tests.specs.inner.Cubes.{BeginsWith, HasAgreeing}
 use Rattle.transition_tests.specs.inner.Ends.{AreVerdictsOf, IsVerdictOf, IsDetectedIfTested}
-use Rattle.transition_tests.proofs.CubeLemmas.{all_cubes, other_cube}
+use Rattle.transition_tests.proofs.CubeLemmas.{all_cubes, frame_cube, other_cube}
 
 -- ---- which faults a batch leaves
 
@@ -63,12 +62,21 @@ module _ (n : Netlist) (holds : Holds) (limit : ℕ) (refutes : Bool) (batch : L
     all_known faults left found by.1 (record { size = let size = are.size in omega arith; each = λ k g at. are.each (suc k) g at }),
   )
 
+  -- the cubes of what is known are cubes of the netlist
+  pub known_fit : (faults : List Fault) (found : List (Option Found)) → AllZip (IsKnown n holds limit refutes batch) faults found → All (IsCubeOf n holds) (cubes_in found)
+  known_fit [] [] are = All-nil (IsCubeOf n holds)
+  known_fit [] (x ∷ found) are = elim are [ ]
+  known_fit (f ∷ faults) [] are = elim are [ ]
+  known_fit (f ∷ faults) (None ∷ found) are = known_fit faults found are.1
+  known_fit (f ∷ faults) (Some (Test c o) ∷ found) are = All-cons (IsCubeOf n holds) c (cubes_in found) (frame_cube n holds f c are.0.evidence.is_cube) (known_fit faults found are.1)
+  known_fit (f ∷ faults) (Some (Closed t) ∷ found) are = known_fit faults found are.1
+  known_fit (f ∷ faults) (Some (Refuted s) ∷ found) are = known_fit faults found are.1
+  known_fit (f ∷ faults) (Some (Partial t) ∷ found) are = known_fit faults found are.1
+
 -- the cubes of what was found are cubes of the netlist
-pub cubes_fit : (n : Netlist) (holds : Holds) (limit : ℕ) (refutes : Bool) (left : List Bool) (found : List (Option Found)) (cubes : List Cube)
-    → AreFoundWhereLeft n holds limit refutes (universe_of n) left found → cubes ≡ cubes_in found → All (IsCubeOf n holds) cubes
-cubes_fit n holds limit refutes left found cubes are is =
-    subst (λ (cs : List Cube). All (IsCubeOf n holds) cs) (sym is)
-    (all_cubes n holds limit refutes (universe_of n) (λ k. get_or left k true) found are.size are.each)
+pub cubes_fit : (n : Netlist) (holds : Holds) (limit : ℕ) (refutes : Bool) (left : List Bool) (found : List (Option Found))
+    → AreFoundWhereLeft n holds limit refutes (universe_of n) left found → All (IsCubeOf n holds) (cubes_in found)
+cubes_fit n holds limit refutes left found are = all_cubes n holds limit refutes (universe_of n) (λ k. get_or left k true) found are.size are.each
 
 -- ---- where a test was found, or the batch detects, some pattern detects
 

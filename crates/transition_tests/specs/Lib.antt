@@ -3,4 +3,5 @@ pub mod Lines
 pub mod Verdicts
 pub mod Making
 pub mod Rounds
+pub mod SlowLines
 pub mod inner

@@ -1,5 +1,5 @@
 -- What comes of each transition fault, with its evidence, and which patterns are kept.
-use Rattle.std.specs.Prelude.{ℕ, ◌≡◌, ◌≤◌, ◌<◌, ⊤, Bool, List, length, None}
+use Rattle.std.specs.Prelude.{ℕ, ◌≡◌, ◌≤◌, ◌<◌, ⊤, Bool, List, length, Option, Some, None}
 use Rattle.std.specs.List.{All, AllZip, Contains}
 use Rattle.statement.specs.declared.lines.Fault.{Fault}
 use Rattle.statement.specs.declared.lines.Point.{Point}
@@ -9,7 +9,9 @@ use Rattle.cubes.specs.Cubes.{IsPatternOf}
 use Rattle.statement.specs.Faults.{universe_of}
 use Rattle.redundancy_cert.specs.Trees.{closed_count, open_count}
 use Rattle.evidence.specs.Evidence.{MayBe, open_ends}
-use Rattle.transition_sim.specs.Detections.{IsLastTransition, LastTransition}
+use Rattle.evidence.specs.declared.engine.Found.{Found}
+use Rattle.transition.specs.Searches.{HasFrameEvidence}
+use Rattle.transition_sim.specs.Detections.{IsDetected, IsLastTransition, LastTransition}
 use Rattle.transition_sim.specs.Shown.{FitsFrames, ShowsFrames}
 use Rattle.transition_tests.specs.declared.verdicts.TransitionVerdict.{TransitionVerdict}
 use Rattle.transition_tests.specs.declared.verdicts.TransitionVerdict.TheVariants.{Detected, Redundant, Aborted}
@@ -21,6 +23,15 @@ IsVerdict n holds limit patterns f (Detected place point) = IsLastTransition n p
 IsVerdict n holds limit patterns f (Redundant e) = LastTransition n patterns f None × ShowsFrames n holds f e × (open_ends e ≡ 0)
 IsVerdict n holds limit patterns f (Aborted tree) =
     LastTransition n patterns f None × FitsFrames n holds f tree × (closed_count tree ≡ limit) × (1 ≤ open_count tree)
+
+-- what the search of a fault answered, or without a search that some pattern of the batch detects it
+abbrev pub IsKnown : Netlist → Holds → ℕ → Bool → List Pattern → Fault → Option Found → Type 0
+IsKnown n holds limit refutes batch f (Some found) = HasFrameEvidence n holds limit refutes f found
+IsKnown n holds limit refutes batch f None = IsDetected n batch f
+
+-- the same of each transition fault, in order
+abbrev pub AreKnown : Netlist → Holds → ℕ → Bool → List Pattern → List (Option Found) → Type 0
+AreKnown n holds limit refutes batch found = AllZip (IsKnown n holds limit refutes batch) (universe_of n) found
 
 -- a refutation only where refutations are given
 abbrev pub MayHave : Bool → TransitionVerdict → Type 0

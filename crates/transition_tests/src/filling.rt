@@ -26,7 +26,7 @@ fn push_cube(alloc: Global, cubes: &mut Vec<Cube>, answer: &Option<Found>) -> Re
 }
 
 /// The cubes of tests, in the order of faults.
-pub(crate) fn cubes_of(alloc: Global, found: &[Option<Found>]) -> Result<Vec<Cube>, AllocError>
+fn cubes_of(alloc: Global, found: &[Option<Found>]) -> Result<Vec<Cube>, AllocError>
     ensures { IfOk result (λ v. v.items ≡ cubes_in found.now) }
 {
     let mut cubes = Vec::new(alloc);
@@ -36,34 +36,40 @@ pub(crate) fn cubes_of(alloc: Global, found: &[Option<Found>]) -> Result<Vec<Cub
     Ok(cubes)
 }
 
-/// Fewer patterns than cubes, where each cube has one with its bits.
-fn filled(alloc: Global, cubes: &[Cube], stream: u64, seed: u64) -> Result<Vec<Pattern>, NoMemory>
-    requires { AllPairs HaveSameWidths cubes.now }
-    ensures made { IfOk result (λ v. AreFilledFrom cubes.now stream seed v.items) }
-    ensures fit { IfOk result (λ v. (n : Netlist) (holds : Holds) → All (IsCubeOf n holds) cubes.now → All (IsPatternOf n holds) v.items) }
-    ensures few { IfOk result (λ v. length v.items ≤ length cubes.now) }
-    ensures agree { IfOk result (λ v. (c : Values) → Contains cubes.now c → HasAgreeing v.items c) }
+/// What the cubes of tests become: fewer patterns than cubes, where each cube has one with its bits.
+fn filled(
+    alloc: Global,
+    found: &[Option<Found>],
+    stream: u64,
+    seed: u64,
+) -> Result<Vec<Pattern>, NoMemory>
+    requires { AllPairs HaveSameWidths (cubes_in found.now) }
+    ensures made { IfOk result (λ v. AreFilledFrom (cubes_in found.now) stream seed v.items) }
+    ensures fit { IfOk result (λ v. (n : Netlist) (holds : Holds) → All (IsCubeOf n holds) (cubes_in found.now) → All (IsPatternOf n holds) v.items) }
+    ensures few { IfOk result (λ v. length v.items ≤ length (cubes_in found.now)) }
+    ensures agree { IfOk result (λ v. (c : Values) → Contains (cubes_in found.now) c → HasAgreeing v.items c) }
 {
-    let merged = merge(alloc, cubes)?;
+    let cubes = cubes_of(alloc, found)?;
+    let merged = merge(alloc, &cubes)?;
     let mut rng = Lcg64Xsh32::new(seed, stream);
     fill_all(alloc, &merged, &mut rng)
 }
 
-/// The patterns of the batch, and behind them fewer than cubes, where each cube has one with its bits.
+/// The patterns of the batch, and behind them what the cubes of tests become, where each cube has a pattern with its bits.
 pub(crate) fn patterns_of(
     alloc: Global,
     mut batch: Vec<Pattern>,
-    cubes: &[Cube],
+    found: &[Option<Found>],
     stream: u64,
     seed: u64,
 ) -> Result<Vec<Pattern>, NoMemory>
-    requires { AllPairs HaveSameWidths cubes.now }
-    ensures fit { IfOk result (λ v. (n : Netlist) (holds : Holds) → All (IsPatternOf n holds) batch.items → All (IsCubeOf n holds) cubes.now → All (IsPatternOf n holds) v.items) }
-    ensures few { IfOk result (λ v. length v.items ≤ length batch.items + length cubes.now) }
-    ensures made { IfOk result (λ v. AreBehind batch.items cubes.now stream seed v.items) }
-    ensures agree { IfOk result (λ v. (c : Values) → Contains cubes.now c → HasAgreeing v.items c) }
+    requires { AllPairs HaveSameWidths (cubes_in found.now) }
+    ensures made { IfOk result (λ v. AreBehind batch.items (cubes_in found.now) stream seed v.items) }
+    ensures fit { IfOk result (λ v. (n : Netlist) (holds : Holds) → All (IsPatternOf n holds) batch.items → All (IsCubeOf n holds) (cubes_in found.now) → All (IsPatternOf n holds) v.items) }
+    ensures few { IfOk result (λ v. length v.items ≤ length batch.items + length (cubes_in found.now)) }
+    ensures agree { IfOk result (λ v. (c : Values) → Contains (cubes_in found.now) c → HasAgreeing v.items c) }
 {
-    let mut others = filled(alloc, cubes, stream, seed)?;
+    let mut others = filled(alloc, found, stream, seed)?;
     batch.append(&mut others)?;
     Ok(batch)
 }

@@ -2,23 +2,21 @@
 //! too is dropped, as in compaction in reverse order; there is no collapsing, since two transition faults of a gate's lines rarely are one.
 ghost use Rattle.std.specs.Prelude.{◌≡◌, ◌+◌, ◌≤◌, ◌<◌, ◌^◌, ℕ, Bool, length, slice_index, IfOk, IfSome};
 ghost use Rattle.std.specs.List.{All, AllZip};
-ghost use Rattle.netlist.specs.Designs.{IsDesign};
 ghost use Rattle.statement.specs.Faults.{universe_of};
 ghost use Rattle.list_core.specs.Kept.{is_last_at, kept_from, new_place};
 ghost use Rattle.cubes.specs.Cubes.{IsPatternOf};
-ghost use Rattle.transition.specs.Searches.{AreFoundWhereLeft};
-ghost use Rattle.transition_tests.specs.Batches.{AreLeftBy};
 ghost use Rattle.transition_tests.specs.Making.{AreMadeFrom};
-ghost use Rattle.transition_tests.specs.Verdicts.{AreTests, MayHave};
+ghost use Rattle.transition_tests.specs.SlowLines.{AreSlowLines};
+ghost use Rattle.transition_tests.specs.Verdicts.{AreKnown, AreTests, MayHave};
 ghost use Rattle.transition_tests.specs.inner.Ends.{AreVerdictsOf, IsVerdictOf, IsDetectedIfTested};
 
-use crate::filling::{cubes_of, patterns_of};
+use crate::filling::patterns_of;
+use crate::slow_lines::SlowLines;
 use crate::verdicts::{Tests, TransitionVerdict};
 use cubes::Pattern;
 use evidence::{Evidence, Found};
-use fault_universe::FaultSet;
 use list_core::{kept, needed, new_places};
-use netlist::{Core, Holds, NoMemory, Point};
+use netlist::{NoMemory, Point};
 use std::alloc::{AllocError, Global};
 use transition_sim::last_tells2;
 
@@ -83,38 +81,27 @@ fn keep(
     Ok(Tests { patterns, verdicts })
 }
 
-/// Tests of a design's transition faults from what the searches found of those that a batch of patterns leaves: behind the batch their cubes, merged
-/// in the order of faults and filled from this seed, and of all patterns those that are the last to detect some fault.
+/// Tests of a design's transition faults from what the searches found of those that no pattern of a batch detects: behind the batch their cubes, merged
+/// in the order of faults and filled from the seed, and of all patterns those that are the last to detect some fault.
 pub fn tests_of(
     alloc: Global,
-    core: &Core,
-    faults: &FaultSet,
+    lines: &SlowLines<'_>,
     batch: Vec<Pattern>,
-    left: &[bool],
     found: Vec<Option<Found>>,
-    limit: u32,
-    seed: u64,
-    holds: &Holds,
 ) -> Result<Tests, NoMemory>
     ghost refutes: { Bool }
-    requires design { IsDesign core.now }
-    requires faults { faults.now ≡ universe_of core.now }
-    requires batch { All (IsPatternOf core.now holds.now) batch.items }
-    requires count { length batch.items ≤ length (universe_of core.now) + 64 }
-    requires left { AreLeftBy core.now batch.items (universe_of core.now) left.now }
-    requires found { AreFoundWhereLeft core.now holds.now limit refutes (universe_of core.now) left.now found.items }
-    ensures tests { IfOk result (λ t. AreTests core.now holds.now limit t.patterns.items t.verdicts.items) }
+    requires lines { AreSlowLines lines.now.core.now lines.now.holds.now lines.now.faults.now }
+    requires batch { All (IsPatternOf lines.now.core.now lines.now.holds.now) batch.items }
+    requires count { length batch.items ≤ length (universe_of lines.now.core.now) + 64 }
+    requires known { AreKnown lines.now.core.now lines.now.holds.now lines.now.limit refutes batch.items found.items }
+    ensures tests { IfOk result (λ t. AreTests lines.now.core.now lines.now.holds.now lines.now.limit t.patterns.items t.verdicts.items) }
     ensures kinds { IfOk result (λ t. All (MayHave refutes) t.verdicts.items) }
-    ensures made { IfOk result (λ t. AreMadeFrom core.now batch.items found.items seed t.patterns.items) }
+    ensures made { IfOk result (λ t. AreMadeFrom lines.now.core.now batch.items found.items lines.now.seed t.patterns.items) }
     ensures few { IfOk result (λ t. length t.patterns.items < 2 ^ 32) }
 {
-    let _ = limit;
-    let _ = left;
-    let _ = holds;
-    core.netlist().sound();
-    let cubes = cubes_of(alloc, &found)?;
-    let patterns = patterns_of(alloc, batch, &cubes, 0, seed)?;
-    let last = last_tells2(alloc, core, faults, &patterns)?;
+    lines.core.netlist().sound();
+    let patterns = patterns_of(alloc, batch, &found, 0, lines.seed)?;
+    let last = last_tells2(alloc, lines.core, lines.faults, &patterns)?;
     let tests = keep(alloc, patterns, &last, found)?;
     Ok(tests)
 }

@@ -1,7 +1,8 @@
 //! Tests for slow lines: a batch of drawn patterns, and behind them what two rounds of searches of the faults that are left found, merged, filled and
 //! simulated; the patterns that are needed, a verdict for each fault, and its line and its evidence by that. All patterns obey the held inputs.
 //!
-//! Gives: `batch_of`, `left_by`, `first_round`, `with_tests`, `second_round`, `all_answers`, `tests_of`, `Tests`, `TransitionVerdict`, `lines_of`, `leaves_of`.
+//! Gives: `batch_of`, `left_by`, `first_round`, `with_tests`, `second_round`, `all_answers`, `tests_of`, `SlowLines`, `Tests`, `TransitionVerdict`,
+//! `lines_of`, `leaves_of`.
 //! Proved: `batch_of`: 64 patterns, each bit taken in order from stream 1 of the seed, but for held inputs; `left_by`: which faults no pattern of a batch
 //! detects, exactly; `first_round`: where more than 128 faults are left exactly those at each sixteenth place, else none;
 //! `with_tests`: behind the patterns so far exactly what a round's tests become, merged and filled from stream 2 of the seed; `second_round`: of the faults
@@ -19,6 +20,7 @@ mod keeping;
 mod leaves;
 mod lines;
 mod rounds;
+mod slow_lines;
 mod verdicts;
 
 pub use dropping::{batch_of, left_by};
@@ -26,4 +28,5 @@ pub use keeping::tests_of;
 pub use leaves::leaves_of;
 pub use lines::lines_of;
 pub use rounds::{all_answers, first_round, second_round, with_tests};
+pub use slow_lines::SlowLines;
 pub use verdicts::{Tests, TransitionVerdict};

@@ -4,18 +4,18 @@
 //! Tests of the first round, filled, detect most of what can be detected behind the drawn patterns, so that further rounds would spare few searches. A
 //! deeper draw spares as many, but leaves more patterns. The first round takes faults that stand apart: their tests differ, and their lines fit into fewer
 //! batches, since neighbours in the order of faults are often late at one reader.
-ghost use Rattle.std.specs.Prelude.{◌≡◌, ◌≤◌, ◌+◌, ◌<◌, ◌&&◌, Bool, count_by, length, slice_index_or, slice_set, IfOk, None};
-ghost use Rattle.std.specs.List.{All};
-ghost use Rattle.cubes.specs.Cubes.{IsPatternOf};
-ghost use Rattle.statement.specs.Faults.{universe_of};
-ghost use Rattle.transition.specs.Searches.{AreFoundWhereLeft};
+ghost use Rattle.std.specs.Prelude.{◌≡◌, ◌≤◌, ◌+◌, ◌<◌, ◌&&◌, count_by, length, slice_index_or, slice_set, IfOk, None};
+ghost use Rattle.std.specs.List.{All, AllPairs};
+ghost use Rattle.statement.specs.Netlists.{Netlist};
+ghost use Rattle.statement.specs.Patterns.{Holds};
+ghost use Rattle.cubes.specs.Cubes.{HaveSameWidths, IsCubeOf, IsPatternOf};
 ghost use Rattle.transition_tests.specs.Making.{AreBehind, cubes_in};
 ghost use Rattle.transition_tests.specs.Rounds.{AreFirst, AreJoined, AreUnanswered, are_many, is_sixteenth, joined, unanswered};
 
-use crate::filling::{cubes_of, patterns_of};
+use crate::filling::patterns_of;
 use cubes::Pattern;
 use evidence::Found;
-use netlist::{Core, Holds, NoMemory};
+use netlist::NoMemory;
 use std::alloc::{AllocError, Global};
 
 /// The first round takes each fault that is left of so many.
@@ -66,27 +66,16 @@ pub fn first_round(alloc: Global, left: &[bool]) -> Result<Vec<bool>, NoMemory>
 /// The patterns so far, and behind them those of a round's tests: their cubes merged in the order of faults, and filled from stream 2 of the seed.
 pub fn with_tests(
     alloc: Global,
-    core: &Core,
     batch: Vec<Pattern>,
-    searched: &[bool],
     found: &[Option<Found>],
-    limit: u32,
     seed: u64,
-    holds: &Holds,
 ) -> Result<Vec<Pattern>, NoMemory>
-    ghost refutes: { Bool }
-    requires batch { All (IsPatternOf core.now holds.now) batch.items }
-    requires found { AreFoundWhereLeft core.now holds.now limit refutes (universe_of core.now) searched.now found.now }
+    requires { AllPairs HaveSameWidths (cubes_in found.now) }
     ensures made { IfOk result (λ v. AreBehind batch.items (cubes_in found.now) 2 seed v.items) }
-    ensures obey { IfOk result (λ v. All (IsPatternOf core.now holds.now) v.items) }
-    ensures few { IfOk result (λ v. length v.items ≤ length batch.items + length (universe_of core.now)) }
+    ensures obey { IfOk result (λ v. (n : Netlist) (holds : Holds) → All (IsPatternOf n holds) batch.items → All (IsCubeOf n holds) (cubes_in found.now) → All (IsPatternOf n holds) v.items) }
+    ensures few { IfOk result (λ v. length v.items ≤ length batch.items + length found.now) }
 {
-    let _ = core;
-    let _ = searched;
-    let _ = limit;
-    let _ = holds;
-    let cubes = cubes_of(alloc, found)?;
-    patterns_of(alloc, batch, &cubes, 2, seed)
+    patterns_of(alloc, batch, found, 2, seed)
 }
 
 /// Whether a fault is left that has no answer yet.
