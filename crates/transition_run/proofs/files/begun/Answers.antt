@@ -1,34 +1,37 @@
 use Rattle.std.proofs.Common.{List, Option, length, subst, sym, ap, arith}
-use Rattle.std.specs.List.{All}
-use Rattle.std.proofs.lemmas.Slice.Zip.{AllZip-long}
+use Rattle.std.specs.List.{All, AllPairs}
 use Rattle.statement.specs.Patterns.{Pattern}
-use Rattle.cubes.specs.Cubes.{IsPatternOf}
-use Rattle.word_sim.proofs.WidthLemmas.{widths}
-use Rattle.statement.specs.Faults.{universe_of}
+use Rattle.cubes.specs.Cubes.{HaveSameWidths, IsCubeOf, IsPatternOf}
+use Rattle.cubes.proofs.MergeLemmas.{netlist_widths}
 use Rattle.evidence.specs.declared.engine.Found.{Found}
-use Rattle.transition.specs.Searches.{AreFoundWhereLeft}
-use Rattle.transition_tests.specs.Batches.{IsLeftBy}
+use Rattle.transition_tests.specs.Making.{cubes_in}
+use Rattle.transition_tests.proofs.TestLemmas.{cubes_fit}
 use Rattle.transition_run.proofs.files.begun.Goals as goal
 
-pub left_by-requires-clause-wide : goal.left_by-requires-clause-wide
-left_by-requires-clause-wide g c =
-    let n = c.args.core.now in
-    widths n c.args.holds.now c.as_slice.result.now
-    (subst (λ (ps : List Pattern). All (IsPatternOf n c.args.holds.now) ps) (sym c.as_slice.ensures.value) c.in_ok-batch.ensures.obey)
+pub search_first-requires-clause-batch : goal.search_first-requires-clause-batch
+search_first-requires-clause-batch g c κs within =
+    subst (All (IsPatternOf c.args.errand.now.core.now c.args.errand.now.holds.now)) (sym c.as_slice.ensures.value) c.in_ok-batch.ensures.obey
 
-pub left_by-requires-clause-count : goal.left_by-requires-clause-count
-left_by-requires-clause-count g c = omega (arith, ap length c.as_slice.ensures.value, c.in_ok-batch.ensures.count)
-
-pub answers_of-requires-clause-marks : goal.answers_of-requires-clause-marks
-answers_of-requires-clause-marks g c κs within =
-    let n = c.args.core.now in
-    let all = AllZip-long (IsLeftBy n c.as_slice.result.now) (universe_of n) c.in_ok-left.left.items c.in_ok-left.ensures in
-    let size = c.in_ok-searched.ensures.size in
-    omega (arith, all, ap length c.as_slice-marks.ensures.value, size, ap length c.as_slice-3.ensures.value)
+pub search_first-requires-clause-count : goal.search_first-requires-clause-count
+search_first-requires-clause-count g c κs within = omega (arith, ap length c.as_slice.ensures.value, c.in_ok-batch.ensures.count)
 
 pub with_tests-requires : goal.with_tests-requires
 with_tests-requires g c =
-    let n = c.args.core.now in (
-      c.in_ok-batch.ensures.obey,
-      subst (λ (xs : List (Option Found)). AreFoundWhereLeft n c.args.holds.now c.args.plan.limit g.E.Engine.refutes (universe_of n) c.as_slice-marks.result.now xs) (sym c.as_slice-answers.ensures.value) c.in_ok-found.ensures,
-    )
+    let e = c.args.errand.now in
+    let first = c.in_ok-first.first in
+    subst (λ (xs : List (Option Found)). AllPairs HaveSameWidths (cubes_in xs)) (sym c.as_slice-2.ensures.value)
+    (netlist_widths e.core.now e.holds.now (cubes_in first.found.items)
+    (cubes_fit e.core.now e.holds.now c.args.plan.search.limit g.E.Engine.refutes first.searched.items first.found.items c.in_ok-first.ensures))
+
+pub returns-clause-patterns : goal.returns-clause-patterns
+returns-clause-patterns g c =
+    let e = c.args.errand.now in
+    let first = c.in_ok-first.first in
+    c.in_ok-patterns.ensures.obey e.core.now e.holds.now c.in_ok-batch.ensures.obey
+    (subst (λ (xs : List (Option Found)). All (IsCubeOf e.core.now e.holds.now) (cubes_in xs)) (sym c.as_slice-2.ensures.value)
+    (cubes_fit e.core.now e.holds.now c.args.plan.search.limit g.E.Engine.refutes first.searched.items first.found.items c.in_ok-first.ensures))
+
+pub returns-clause-few : goal.returns-clause-few
+returns-clause-few g c =
+    let size = c.in_ok-first.ensures.size in
+    omega (arith, c.in_ok-patterns.ensures.few, c.in_ok-batch.ensures.count, size, ap length c.as_slice-2.ensures.value)

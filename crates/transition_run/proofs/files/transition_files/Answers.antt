@@ -20,21 +20,31 @@ pub stitch-requires-clause-distinct : goal.stitch-requires-clause-distinct
 stitch-requires-clause-distinct g c =
     cells_distinct c.netlist-netlist.result.now c.sound.ensures.formed.numbered c.cells.result.now c.cells.ensures
 
-pub slow_tests-requires-clause-faults : goal.slow_tests-requires-clause-faults
-slow_tests-requires-clause-faults g c κs within = c.in_ok-faults.ensures ∙ ap universe_of c.netlist-netlist.ensures
+pub slow_tests-requires-clause-lines : goal.slow_tests-requires-clause-lines
+slow_tests-requires-clause-lines g c κs within = record {
+  design = c.requires.design;
+  held = c.requires.held;
+  all = c.in_ok-faults.ensures ∙ ap universe_of c.netlist-netlist.ensures;
+}
+
+pub texts_of-requires-clause-lines : goal.texts_of-requires-clause-lines
+texts_of-requires-clause-lines g c = record {
+  design = c.requires.design;
+  held = c.requires.held;
+  all = c.in_ok-faults.ensures ∙ ap universe_of c.netlist-netlist.ensures;
+}
 
 pub texts_of-requires-clause-chains : goal.texts_of-requires-clause-chains
 texts_of-requires-clause-chains g c =
-    let n = c.args.core.now in
-    are_chains n c.args.plan.chains c.in_ok-chains.chains c.requires.some
-    (dealt n c.args.plan.chains c.cells.result.now c.in_ok-chains.chains (c.cells.ensures ∙ ap cell_ids c.netlist-netlist.ensures) c.in_ok-chains.ensures)
+    are_chains c.args.errand.now.core.now c.args.plan.chains c.in_ok-chains.chains c.requires.some
+    (dealt c.args.errand.now.core.now c.args.plan.chains c.cells.result.now c.in_ok-chains.chains (c.cells.ensures ∙ ap cell_ids c.netlist-netlist.ensures) c.in_ok-chains.ensures)
 
 pub returns : goal.returns
 returns g c =
-    let n = c.args.core.now in
-    let holds = c.args.holds.now in
+    let n = c.args.errand.now.core.now in
+    let holds = c.args.errand.now.holds.now in
     let asked = c.args.plan.chains in
-    let limit = c.args.plan.limit in
+    let limit = c.args.plan.search.limit in
     let tests = c.in_ok-tests.tests in
     let files = c.in_ok-files.files in
     let same : c.in_ok-chains.chains ≡ design_chains n asked =
