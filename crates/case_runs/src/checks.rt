@@ -1,14 +1,8 @@
 //! The check of five files by the program that does nothing else, the files being those of the prefix `p`.
 use crate::case::Case;
-use crate::files::{ENDINGS, push_file, put_text};
-use crate::runs::{Program, Runner, run};
-use crate::showing::push_same;
-use case_text::{Named, Pushed, changed, cut, push_numbers, push_unknown, show, text_of};
-use std::alloc::{AllocError, Global};
-
-fn name_of(alloc: Global, prefix: &str, ending: &str) -> Result<String, AllocError> {
-    format!(in alloc; "{prefix}.{ending}")
-}
+use crate::files::{ENDINGS, name_of, push_file, put_text};
+use case_text::{Named, Pushed, Said, changed, cut, text_of};
+use std::alloc::Global;
 
 /// Takes a text as a file: `NAME.END` as `p.END`.
 fn add_text(
@@ -23,19 +17,12 @@ fn add_text(
     push_file(files, alloc, name, text_of(texts, told.as_str()))
 }
 
-/// Takes five texts as the files: those of this name and the endings.
-fn five_files(alloc: Global, texts: &[Named], name: &str) -> Result<Vec<Named>, AllocError> {
-    let mut files = Vec::new(alloc);
-    for ending in ENDINGS {
-        add_text(&mut files, alloc, texts, name, ending)?;
-    }
-    Ok(files)
-}
-
-/// Takes no file, and then five texts as files.
+/// Takes no file, and then five texts as files: those of this name and the endings.
 fn begin(case: &mut Case, alloc: Global, texts: &[Named], name: &str) -> Pushed {
     *case = Case::new(alloc);
-    case.files = five_files(alloc, texts, name)?;
+    for ending in ENDINGS {
+        add_text(&mut case.files, alloc, texts, name, ending)?;
+    }
     Ok(())
 }
 
@@ -59,36 +46,17 @@ fn lose(files: &mut Vec<Named>, alloc: Global, ending: &str) -> Pushed {
     Ok(())
 }
 
-/// Adds the line, the status and the line that the check ends with.
-pub fn push_checked<R: Runner>(
-    to: &mut Vec<u8>,
-    runner: &R,
-    alloc: Global,
-    case: &Case,
-    line: &str,
-) -> Pushed
-    requires { R.ready runner.now }
-{
-    push_same(to, line)?;
-    let ran = run(runner, alloc, case, Program::Check, "atpg-check p")?;
-    push_numbers(to, b"status", &[u32::from(ran.status)])?;
-    show(to, ran.out.bytes())?;
-    show(to, ran.err.bytes())
-}
-
 /// Takes a line on the five files.
-pub fn take(
-    to: &mut Vec<u8>,
-    alloc: Global,
-    texts: &[Named],
-    case: &mut Case,
-    line: &str,
-) -> Pushed {
+pub(crate) fn take(to: &mut Said, texts: &[Named], case: &mut Case, line: &str) -> Pushed {
     let (verb, rest) = cut(line);
     match verb {
-        "files" => begin(case, alloc, texts, rest),
-        "missing" => lose(&mut case.files, alloc, rest),
-        "change" => change(&mut case.files, alloc, rest),
-        _ => push_unknown(to, line),
+        "files" => begin(case, to.alloc, texts, rest),
+        "missing" => lose(&mut case.files, to.alloc, rest),
+        "change" => change(&mut case.files, to.alloc, rest),
+        _ => {
+            to.push("no such line: ");
+            to.push_line(line);
+            Ok(())
+        }
     }
 }

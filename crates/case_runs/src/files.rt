@@ -4,9 +4,13 @@ use outside::MemoryShelf;
 use std::alloc::{AllocError, Global};
 
 /// How the names of a run's files end.
-pub const ENDINGS: [&str; 5] = ["net", "scan", "stil", "cert", "rep"];
+pub(crate) const ENDINGS: [&str; 5] = ["net", "scan", "stil", "cert", "rep"];
 
-pub fn is_named(texts: &[Named], name: &str) -> bool {
+pub(crate) fn name_of(alloc: Global, prefix: &str, ending: &str) -> Result<String, AllocError> {
+    format!(in alloc; "{prefix}.{ending}")
+}
+
+pub(crate) fn is_named(texts: &[Named], name: &str) -> bool {
     for text in texts {
         if text.name.as_str() == name {
             return true;
@@ -16,7 +20,12 @@ pub fn is_named(texts: &[Named], name: &str) -> bool {
 }
 
 /// Adds a file.
-pub fn push_file(files: &mut Vec<Named>, alloc: Global, name: String, text: &[u8]) -> Pushed {
+pub(crate) fn push_file(
+    files: &mut Vec<Named>,
+    alloc: Global,
+    name: String,
+    text: &[u8],
+) -> Pushed {
     let text = Vec::from_slice(alloc, text)?;
     files.push(Named { name, text })?;
     Ok(())
@@ -31,21 +40,20 @@ fn keep_file(files: &mut Vec<Named>, alloc: Global, shelf: &MemoryShelf, name: S
 }
 
 /// Puts the files of a prefix that stand on the shelf among those of the case.
-pub fn keep_files(
+pub(crate) fn keep_files(
     files: &mut Vec<Named>,
     alloc: Global,
     shelf: &MemoryShelf,
     prefix: &str,
 ) -> Pushed {
     for ending in ENDINGS {
-        let name = format!(in alloc; "{prefix}.{ending}")?;
-        keep_file(files, alloc, shelf, name)?;
+        keep_file(files, alloc, shelf, name_of(alloc, prefix, ending)?)?;
     }
     Ok(())
 }
 
 /// Puts a text in place of a file's.
-pub fn put_text(files: &mut Vec<Named>, name: &str, text: &[u8]) -> Pushed {
+pub(crate) fn put_text(files: &mut Vec<Named>, name: &str, text: &[u8]) -> Pushed {
     for file in files.iter_mut() {
         if file.name.as_str() == name {
             file.text.clear();
@@ -56,7 +64,7 @@ pub fn put_text(files: &mut Vec<Named>, name: &str, text: &[u8]) -> Pushed {
 }
 
 /// The names and bytes of files.
-pub fn parts_of<'a>(
+pub(crate) fn parts_of<'a>(
     alloc: Global,
     files: &'a [Named],
 ) -> Result<Vec<(&'a str, &'a [u8])>, AllocError> {

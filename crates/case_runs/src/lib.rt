@@ -13,6 +13,7 @@ mod runs;
 mod script;
 mod showing;
 mod sweeps;
+mod telling;
 
 pub use runs::{Program, Ran, Runner};
 pub use script::report;

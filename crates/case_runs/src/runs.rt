@@ -56,10 +56,10 @@ pub struct Ran {
 impl Ran {
     /// The shelf and the outputs before a run.
     fn new(alloc: Global, case: &Case) -> Result<Ran, AllocError> {
-        let files = parts_of(alloc, &case.files)?;
-        let shelf = MemoryShelf::new(alloc, &files, &case.shelf)?;
         let out = MemorySink::new(alloc, &case.out)?;
         let err = MemorySink::new(alloc, &case.err)?;
+        let files = parts_of(alloc, &case.files)?;
+        let shelf = MemoryShelf::new(alloc, &files, &case.shelf)?;
         Ok(Ran {
             status: 0,
             has_met: false,
@@ -70,7 +70,7 @@ impl Ran {
     }
 
     /// Whether the other run has the same status and outputs.
-    pub fn is_as(&self, other: &Ran) -> bool {
+    pub(crate) fn is_as(&self, other: &Ran) -> bool {
         self.status == other.status
             && self.out.bytes() == other.out.bytes()
             && self.err.bytes() == other.err.bytes()
@@ -78,7 +78,7 @@ impl Ran {
 }
 
 /// Runs a program with the words of a line over a case.
-pub fn run<R: Runner>(
+pub(crate) fn run<R: Runner>(
     runner: &R,
     alloc: Global,
     case: &Case,

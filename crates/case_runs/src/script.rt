@@ -3,122 +3,37 @@ ghost use Rattle.std.specs.Prelude.{⊤};
 
 use crate::case::{Case, add_file, push_failing, showing_of};
 use crate::checks;
-use crate::files::{is_named, keep_files, put_text};
+use crate::files::put_text;
 use crate::groups::Groups;
-use crate::runs::{Program, Ran, Runner, run};
-use crate::showing::{
-    push_count, push_given, push_made, push_output, push_run, push_same, push_status,
-};
-use case_text::{Named, Pushed, Script, cut, play, text_of};
+use crate::runs::{Program, Runner, run};
+use crate::telling::{asked_of, push_answer, tell};
+use case_text::{Named, Pushed, Said, Script, cut, play, text_of};
 use std::alloc::{AllocError, Global};
 use std::marker::Model;
 
-/// Adds what became of the files of a case.
-fn push_all_given(to: &mut Vec<u8>, case: &Case, ran: &Ran) -> Pushed {
-    for file in &case.files {
-        push_given(to, &ran.shelf, file)?;
-    }
-    Ok(())
-}
-
-/// Adds the further files that the words of a line name.
-fn push_all_made(to: &mut Vec<u8>, case: &Case, ran: &Ran, line: &str) -> Pushed {
-    for word in line.split(' ') {
-        if !is_named(&case.files, word) {
-            push_made(to, &ran.shelf, word)?;
-        }
-    }
-    Ok(())
-}
-
-fn push_outputs(to: &mut Vec<u8>, case: &Case, ran: &Ran) -> Pushed {
-    push_output(to, b"out", &ran.out, case.out_as)?;
-    push_output(to, b"err", &ran.err, case.err_as)
-}
-
-/// Adds the words of a run and what it has left.
-fn push_told(to: &mut Vec<u8>, case: &Case, ran: &Ran, line: &str) -> Pushed {
-    push_run(to, line, ran.status)?;
-    push_outputs(to, case, ran)?;
-    push_all_given(to, case, ran)?;
-    push_all_made(to, case, ran, line)?;
-    push_count(to, &ran.shelf)
-}
-
-/// `run WORDS`: runs the words, and adds what came.
-fn push_ran<R: Runner>(
-    to: &mut Vec<u8>,
-    runner: &R,
-    alloc: Global,
-    case: &Case,
-    words: &str,
-) -> Pushed
+/// Runs what a line asks, and adds what came.
+fn push_ran<R: Runner>(to: &mut Said, runner: &R, case: &mut Case, line: &str) -> Pushed
     requires { R.ready runner.now }
 {
-    let ran = run(runner, alloc, case, Program::Whole, words)?;
-    push_told(to, case, &ran, words)
+    let asked = asked_of(line);
+    let ran = run(runner, to.alloc, case, asked.program, asked.words)?;
+    tell(to, case, &ran, &asked)
 }
 
-/// `keep PREFIX WORDS`: runs the words, and keeps the files of the prefix for the runs that follow.
-fn push_kept<R: Runner>(
-    to: &mut Vec<u8>,
-    runner: &R,
-    alloc: Global,
-    case: &mut Case,
-    rest: &str,
-) -> Pushed
+/// `twice WORDS`: adds whether two runs leave the same status and outputs.
+fn push_twice<R: Runner>(to: &mut Said, runner: &R, case: &Case, line: &str) -> Pushed
     requires { R.ready runner.now }
 {
-    let (prefix, words) = cut(rest);
-    let ran = run(runner, alloc, case, Program::Whole, words)?;
-    push_told(to, case, &ran, words)?;
-    keep_files(&mut case.files, alloc, &ran.shelf, prefix)
-}
-
-/// Whether two runs of the words leave the same status and outputs.
-fn is_same_twice<R: Runner>(
-    runner: &R,
-    alloc: Global,
-    case: &Case,
-    words: &str,
-) -> Result<bool, AllocError>
-    requires { R.ready runner.now }
-{
-    let first = run(runner, alloc, case, Program::Whole, words)?;
-    let second = run(runner, alloc, case, Program::Whole, words)?;
-    Ok(first.is_as(&second))
-}
-
-/// `twice WORDS`: adds whether two runs leave the same.
-fn push_twice<R: Runner>(
-    to: &mut Vec<u8>,
-    runner: &R,
-    alloc: Global,
-    case: &Case,
-    words: &str,
-) -> Pushed
-    requires { R.ready runner.now }
-{
-    if is_same_twice(runner, alloc, case, words)? {
-        to.extend_from_slice(b"the same\n")
+    let words = cut(line).1;
+    let first = run(runner, to.alloc, case, Program::Whole, words)?;
+    let second = run(runner, to.alloc, case, Program::Whole, words)?;
+    to.push_line(line);
+    to.push_line(if first.is_as(&second) {
+        "the same"
     } else {
-        to.extend_from_slice(b"not the same\n")
-    }
-}
-
-/// `meet WORDS`: runs the words with a stage at which workers 0 and 1 wait for each other, adds what came, and whether they met.
-fn push_met<R: Runner>(
-    to: &mut Vec<u8>,
-    runner: &R,
-    alloc: Global,
-    case: &Case,
-    words: &str,
-) -> Pushed
-    requires { R.ready runner.now }
-{
-    let ran = run(runner, alloc, case, Program::Meeting, words)?;
-    push_told(to, case, &ran, words)?;
-    push_same(to, if ran.has_met { "met" } else { "not met" })
+        "not the same"
+    });
+    Ok(())
 }
 
 /// The status and the outputs of a run of the words with this text in place of a file's.
@@ -134,16 +49,14 @@ fn answer<R: Runner>(
 {
     put_text(&mut case.files, name, text)?;
     let ran = run(runner, alloc, case, Program::Whole, words)?;
-    let mut answer = Vec::new(alloc);
-    push_status(&mut answer, ran.status)?;
-    push_outputs(&mut answer, case, &ran)?;
-    Ok(answer)
+    let mut answer = Said::new(alloc);
+    push_answer(&mut answer, case, &ran);
+    answer.end()
 }
 
 fn push_answers<R: Runner>(
-    to: &mut Vec<u8>,
+    to: &mut Said,
     runner: &R,
-    alloc: Global,
     case: &mut Case,
     name: &str,
     whole: &[u8],
@@ -151,84 +64,61 @@ fn push_answers<R: Runner>(
 ) -> Pushed
     requires { R.ready runner.now }
 {
-    let mut groups = Groups::new(alloc);
+    let mut groups = Groups::new(to.alloc);
     for length in 0..whole.len() {
-        let answer = answer(runner, alloc, case, name, &whole[..length], words)?;
-        groups.add(to, answer)?;
+        let answer = answer(runner, to.alloc, case, name, &whole[..length], words)?;
+        groups.add(to, answer);
     }
-    groups.end(to)
+    groups.end(to);
+    Ok(())
 }
 
 /// `cut NAME WORDS`: runs the words over each proper prefix of a file, in its place. Lengths one after another with one answer stand together.
-fn push_cut<R: Runner>(
-    to: &mut Vec<u8>,
-    runner: &R,
-    alloc: Global,
-    case: &mut Case,
-    rest: &str,
-) -> Pushed
+fn push_cut<R: Runner>(to: &mut Said, runner: &R, case: &mut Case, line: &str) -> Pushed
     requires { R.ready runner.now }
 {
-    let (name, words) = cut(rest);
-    let whole = Vec::from_slice(alloc, text_of(&case.files, name))?;
-    push_answers(to, runner, alloc, case, name, &whole, words)?;
+    to.push_line(line);
+    let (name, words) = cut(cut(line).1);
+    let whole = Vec::from_slice(to.alloc, text_of(&case.files, name))?;
+    push_answers(to, runner, case, name, &whole, words)?;
     put_text(&mut case.files, name, &whole)
 }
 
-/// `case NAME`: another case.
-fn begin(to: &mut Vec<u8>, alloc: Global, case: &mut Case, line: &str) -> Pushed {
-    *case = Case::new(alloc);
-    to.push(b'\n')?;
-    push_same(to, line)
-}
-
 /// Takes a line that tells of a case.
-fn take(to: &mut Vec<u8>, alloc: Global, texts: &[Named], case: &mut Case, line: &str) -> Pushed {
+fn take(to: &mut Said, texts: &[Named], case: &mut Case, line: &str) -> Pushed {
     let (verb, rest) = cut(line);
     match verb {
-        "case" => begin(to, alloc, case, line),
-        "file" => add_file(&mut case.files, alloc, texts, rest),
-        "shelf-fails" => push_failing(&mut case.shelf, rest),
-        "out-fails" => push_failing(&mut case.out, rest),
-        "err-fails" => push_failing(&mut case.err, rest),
-        "out-as" => {
-            case.out_as = showing_of(rest);
-            Ok(())
+        "file" => return add_file(&mut case.files, to.alloc, texts, rest),
+        "shelf-fails" => return push_failing(&mut case.shelf, rest),
+        "out-fails" => return push_failing(&mut case.out, rest),
+        "err-fails" => return push_failing(&mut case.err, rest),
+        "out-as" => case.out_as = showing_of(rest),
+        "err-as" => case.err_as = showing_of(rest),
+        "case" => {
+            *case = Case::new(to.alloc);
+            to.push("\n");
+            to.push_line(line);
         }
-        "err-as" => {
-            case.err_as = showing_of(rest);
-            Ok(())
-        }
-        _ => checks::take(to, alloc, texts, case, line),
+        _ => return checks::take(to, texts, case, line),
     }
+    Ok(())
 }
 
 /// Takes a line that isn't a text's.
 fn take_any<R: Runner>(
-    to: &mut Vec<u8>,
+    to: &mut Said,
     runner: &R,
-    alloc: Global,
     texts: &[Named],
     case: &mut Case,
     line: &str,
 ) -> Pushed
     requires { R.ready runner.now }
 {
-    let (verb, rest) = cut(line);
-    match verb {
-        "run" => push_ran(to, runner, alloc, case, rest),
-        "keep" => push_kept(to, runner, alloc, case, rest),
-        "meet" => push_met(to, runner, alloc, case, rest),
-        "twice" => {
-            push_same(to, line)?;
-            push_twice(to, runner, alloc, case, rest)
-        }
-        "cut" => {
-            push_same(to, line)?;
-            push_cut(to, runner, alloc, case, rest)
-        }
-        "check" => checks::push_checked(to, runner, alloc, case, line),
-        _ => take(to, alloc, texts, case, line),
+    match cut(line).0 {
+        "run" | "keep" | "meet" | "check" => push_ran(to, runner, case, line),
+        "twice" => push_twice(to, runner, case, line),
+        "cut" => push_cut(to, runner, case, line),
+        _ => take(to, texts, case, line),
     }
 }
 
@@ -248,22 +138,11 @@ impl<'a, R: Runner> Model for Cases<'a, R> {
     ghost invariant = { λ cases. R.ready cases.runner.now };
 }
 
-impl<'a, R: Runner> Cases<'a, R> {
-    fn new(alloc: Global, runner: &'a R) -> Cases<'a, R>
-        requires { R.ready runner.now }
-    {
-        Cases {
-            runner,
-            case: Case::new(alloc),
-        }
-    }
-}
-
 impl<R: Runner> Script for Cases<'_, R> {
     fn take(&mut self, alloc: Global, texts: &[Named], line: &str) -> Result<Vec<u8>, AllocError> {
-        let mut said = Vec::new(alloc);
-        take_any(&mut said, self.runner, alloc, texts, &mut self.case, line)?;
-        Ok(said)
+        let mut to = Said::new(alloc);
+        take_any(&mut to, self.runner, texts, &mut self.case, line)?;
+        to.end()
     }
 }
 
@@ -271,6 +150,9 @@ impl<R: Runner> Script for Cases<'_, R> {
 pub fn report<R: Runner>(alloc: Global, given: &str, runner: &R) -> Result<Vec<u8>, AllocError>
     requires { R.ready runner.now }
 {
-    let mut cases = Cases::new(alloc, runner);
+    let mut cases = Cases {
+        runner,
+        case: Case::new(alloc),
+    };
     play(alloc, given, &mut cases)
 }
