@@ -10,6 +10,7 @@ use Rattle.std.proofs.lemmas.Map.Steps.{length-le_from_distinct_below}
 use Rattle.std.proofs.lemmas.Option.{slice_get-get_or, slice_get_within}
 use Rattle.std.proofs.lemmas.Slice.Zip.{AllZip-long}
 use Rattle.statement.specs.declared.lines.Fault.{Fault}
+use Rattle.statement.specs.declared.lines.Line.TheVariants.{Stem}
 use Rattle.statement.specs.Netlists.{Netlist}
 use Rattle.statement.specs.Patterns.{Pattern}
 use Rattle.statement.specs.Faults.{universe_of}
@@ -24,7 +25,10 @@ use Rattle.report.specs.Reports.{Times}
 use Rattle.run_report.specs.Times.{HasTimes}
 use Rattle.run_report.proofs.ClassLemmas.{equivalent, to_member, to_representative}
 use Rattle.file_check.specs.inner.Times.{AreOfClasses}
-use Rattle.file_check.proofs.FindingLemmas.{blank, zip_at}
+use Rattle.check_parts.proofs.Lists.{zip_at}
+
+blank : Fault
+blank = record { line = Stem 0; value = false }
 
 -- ---- to how many is counted
 
@@ -99,11 +103,10 @@ other_count n patterns t some other (inl none) = absurd (omega arith)
 other_count n patterns t some other (inr all) = other (AllZip-long (IsTimes n patterns t.most) (universe_of n) t.of all)
 
 -- what is counted, as it is read
-pub counted_of : (n : Netlist) (cut : ℕ) (read patterns : List Pattern) (listed faults : List Fault) (times told : List ℕ) → read ≡ patterns → listed ≡ faults → told ≡ times
-    → AllZip (IsTimes n read cut) listed times → AllZip (IsTimes n patterns cut) faults told
-counted_of n cut read patterns listed faults times told p q r all =
-    subst (λ (ts : List ℕ). AllZip (IsTimes n patterns cut) faults ts) (sym r)
-    (subst (λ (fs : List Fault). AllZip (IsTimes n patterns cut) fs times) q (subst (λ (ps : List Pattern). AllZip (IsTimes n ps cut) listed times) p all))
+pub counted_of : (n : Netlist) (cut : ℕ) (patterns : List Pattern) (listed faults : List Fault) (times told : List ℕ) → listed ≡ faults → told ≡ times
+    → AllZip (IsTimes n patterns cut) listed times → AllZip (IsTimes n patterns cut) faults told
+counted_of n cut patterns listed faults times told q r all =
+    subst (λ (ts : List ℕ). AllZip (IsTimes n patterns cut) faults ts) (sym r) (subst (λ (fs : List Fault). AllZip (IsTimes n patterns cut) fs times) q all)
 
 -- each class has a number
 pub numbers_within : (n : Netlist) (patterns : List Pattern) (cut : ℕ) (classes : Classes) (times : List ℕ) → AreClasses n classes → AllZip (IsTimes n patterns cut) classes.representatives times

@@ -1,6 +1,7 @@
 //! How often each fault is detected, against what the report says of it.
-ghost use Rattle.std.specs.Prelude.{◌≡◌, ◌+◌, ◌-◌, ◌<◌, ◌≤◌, ◌^◌, length, min, IfOk, MatchBool};
+ghost use Rattle.std.specs.Prelude.{◌≡◌, ◌-◌, ◌<◌, ◌^◌, length, min, IfOk, MatchBool};
 ghost use Rattle.std.specs.List.{All};
+ghost use Rattle.statement.specs.Faults.{universe_of};
 ghost use Rattle.run_report.specs.Subjects.{IsSubjectOf};
 ghost use Rattle.run_report.specs.Times.{HasTimes};
 ghost use Rattle.file_check.specs.inner.Times.{AreOfClasses};
@@ -38,33 +39,50 @@ fn are_of_classes(classes: &Classes, times: &[u32], count: u32, said: &[u64]) ->
     true
 }
 
-/// Whether the report's number of each fault is the one that follows. Each class is counted once, by its representative, and none where no number is told.
-pub(crate) fn has_times(
+/// The same, where the report counts detections and has a number for each fault. Each class is counted once, by its representative.
+fn are_counted(
     alloc: Global,
-    trial: &Trial,
+    trial: &Trial<'_>,
     subject: &Subject,
     said: &Times,
 ) -> Result<bool, NoMemory>
     requires trial { IsTrial trial.now }
-    requires subject { IsSubjectOf trial.now.core subject.now }
-    requires few { length trial.now.patterns.items + 64 ≤ 2 ^ 32 }
+    requires subject { IsSubjectOf trial.now.core.now subject.now }
+    requires some { 0 < said.now.most }
+    requires count { length said.now.of ≡ length (universe_of trial.now.core.now) }
     ensures { IfOk result (λ right. MatchBool right
-        (HasTimes trial.now.core trial.now.patterns.items said.now)
-        (¬ HasTimes trial.now.core trial.now.patterns.items said.now)) }
+        (HasTimes trial.now.core.now trial.now.patterns.now said.now)
+        (¬ HasTimes trial.now.core.now trial.now.patterns.now said.now)) }
 {
     faults_have_lines();
     detected_alike();
     times_alike();
     times_once();
+    let representatives = subject.classes.representatives();
+    let most = counted_to(said.most());
+    let times = times_of(alloc, trial.core, representatives, trial.patterns, most)?;
+    let count = subject.faults.len();
+    Ok(are_of_classes(&subject.classes, &times, count, said.of()))
+}
+
+/// Whether the report's number of each fault is the one that follows. None is counted where no number is told.
+pub(crate) fn has_times(
+    alloc: Global,
+    trial: &Trial<'_>,
+    subject: &Subject,
+    said: &Times,
+) -> Result<bool, NoMemory>
+    requires trial { IsTrial trial.now }
+    requires subject { IsSubjectOf trial.now.core.now subject.now }
+    ensures { IfOk result (λ right. MatchBool right
+        (HasTimes trial.now.core.now trial.now.patterns.now said.now)
+        (¬ HasTimes trial.now.core.now trial.now.patterns.now said.now)) }
+{
     if said.most() == 0 {
         return Ok(true);
     }
-    let faults = subject.faults.len();
-    if said.of().len() != faults as usize {
+    if said.of().len() != subject.faults.len() as usize {
         return Ok(false);
     }
-    let representatives = subject.classes.representatives();
-    let most = counted_to(said.most());
-    let times = times_of(alloc, &trial.core, representatives, &trial.patterns, most)?;
-    Ok(are_of_classes(&subject.classes, &times, faults, said.of()))
+    are_counted(alloc, trial, subject, said)
 }

@@ -1,45 +1,9 @@
-use Rattle.std.proofs.Common.{◌^◌, ◌-◌, ◌∙◌, ℕ, MatchBool, List, ap, arith, length, min, subst, sym}
-use Rattle.std.specs.List.{All}
-use Rattle.statement.specs.declared.lines.Fault.{Fault}
-use Rattle.netlist.specs.Lines.{IsLineOf}
-use Rattle.file_check.specs.inner.Times.{AreOfClasses}
-use Rattle.file_check.proofs.FindingLemmas.{have_lines}
-use Rattle.file_check.proofs.TimesLemmas.{by_classes, counted_of, numbers_within, other_count}
+use Rattle.std.proofs.Common.{ap, arith, length}
+use Rattle.file_check.proofs.TimesLemmas.{other_count}
 use Rattle.file_check.proofs.times.has_times.Goals as goal
 
-pub returns-then-of-faults : goal.returns-then-of-faults
-returns-then-of-faults c =
+pub returns-then-of-len : goal.returns-then-of-len
+returns-then-of-len c =
     let faults = ap length c.requires.subject.faults in
     let told = ap length c.of.ensures in
-    other_count c.args.trial.now.core c.args.trial.now.patterns.items c.args.said.now (omega arith) (λ same. absurd (omega arith))
-
-pub times_of-requires-clause-lines : goal.times_of-requires-clause-lines
-times_of-requires-clause-lines c =
-    let n = c.args.trial.now.core in
-    subst (λ (fs : List Fault). All (λ (f : Fault). IsLineOf n f.line) fs) (sym c.representatives-representatives.ensures)
-    (have_lines n c.requires.trial.sound c.faults_have_lines.ensures c.args.subject.now.classes c.requires.subject.classes)
-
-pub are_of_classes-requires-clause-within : goal.are_of_classes-requires-clause-within
-are_of_classes-requires-clause-within c =
-    let n = c.args.trial.now.core in
-    let ps = c.args.trial.now.patterns.items in
-    let classes = c.args.subject.now.classes in
-    let counted = counted_of n c.counted_to-most.result c.deref.result.now ps c.representatives-representatives.result.now classes.representatives c.in_ok-times.times.items c.deref-2.result.now
-    c.deref.ensures.value c.representatives-representatives.ensures c.deref-2.ensures.value c.in_ok-times.ensures in
-    numbers_within n ps c.counted_to-most.result classes c.deref-2.result.now c.requires.subject.classes counted
-
-pub returns : goal.returns
-returns c =
-    let n = c.args.trial.now.core in
-    let ps = c.args.trial.now.patterns.items in
-    let classes = c.args.subject.now.classes in
-    let said = c.args.said.now in
-    let counted = counted_of n c.counted_to-most.result c.deref.result.now ps c.representatives-representatives.result.now classes.representatives c.in_ok-times.times.items c.deref-2.result.now
-    c.deref.ensures.value c.representatives-representatives.ensures c.deref-2.ensures.value c.in_ok-times.ensures in
-    let faults = ap length c.requires.subject.faults in
-    let told = ap length c.of.ensures in
-    by_classes n c.requires.trial.sound ps (2 ^ 32 - 1) said.most c.counted_to-most.result (c.counted_to-most.ensures ∙ ap (λ (m : ℕ). min m (2 ^ 32 - 1)) c.most-2.ensures) (omega arith)
-    c.detected_alike.ensures c.times_alike.ensures c.times_once.ensures classes c.requires.subject.classes c.deref-2.result.now counted
-    said.of c.len-faults.result (omega arith) (omega arith) (omega arith) c.are_of_classes.result
-    (subst (λ (s : List ℕ). MatchBool c.are_of_classes.result (AreOfClasses classes c.deref-2.result.now s c.len-faults.result) (¬ AreOfClasses classes c.deref-2.result.now s c.len-faults.result))
-    c.of-2.ensures c.are_of_classes.ensures)
+    other_count c.args.trial.now.core.now c.args.trial.now.patterns.now c.args.said.now (omega arith) (λ same. absurd (omega arith))
