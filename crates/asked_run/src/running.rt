@@ -282,7 +282,7 @@ pub fn run_netlist<'a, R: Threads + Wait + Sync, S: Shelf, T: Sink, G: Gate + Sy
 ) -> Ending<'a, Refusal>
     requires { AreInRunRange words.options }
     ensures { CommandRow (run_reads words.entry.names.net.now (option_map (λ t. t.now) words.entry.names.order) (option_map (λ t. t.now) words.entry.names.list) (option_map (λ t. t.now) words.entry.names.first)) (run_files words.entry.names.prefix.now)
-        (ordered_run_due (option_map (λ t. t.now) words.entry.names.order) (option_map (λ t. t.now) words.entry.names.list) (option_map (λ t. t.now) words.entry.names.first) words.options (map hold_of words.named.now))
+        (ordered_run_due (option_map (λ t. t.now) words.entry.names.order) (option_map (λ t. t.now) words.entry.names.list) (option_map (λ t. t.now) words.entry.names.first) words.entry.options (map hold_of words.entry.named.now))
         (world (S.files shelf.old) (S.failures shelf.old) (T.taken out.old) (T.failures out.old))
         (world (S.files shelf.new) (S.failures shelf.new) (T.taken out.new) (T.failures out.new)) result }
 {
