@@ -1,13 +1,15 @@
 -- What comes of the faults is true of the patterns that are kept.
-use Rattle.std.proofs.Common.{◌≡◌, ◌⊎◌, inl, inr, ℕ, zero, suc, ◌+◌, ◌<◌, Bool, true, false, not, map, List, [], ◌∷◌, ◌++◌, length, get_or, Option, Some, None, refl, sym, ap, ◌∙◌, subst, arith}
+use Rattle.std.proofs.Common.{◌≡◌, ◌⊎◌, inl, inr, ℕ, zero, suc, ◌+◌, ◌<◌, ◌≤◌, ◌^◌, Bool, true, false, not, map, List, [], ◌∷◌, ◌++◌, length, get_or, Option, Some, None, refl, sym, ap, ◌∙◌, subst, arith}
 use Rattle.std.specs.Prelude.{IfSome}
 use Rattle.std.specs.List.{All, AllZip, Contains, slice_get}
 use Rattle.std.specs.Option.{is_some}
 use Rattle.std.proofs.lemmas.List.Elements.{All-nil, All-cons, All-head, All-tail}
 use Rattle.std.proofs.lemmas.Option.{slice_get_read, slice_get_within, slice_get-get_or}
+use Rattle.std.proofs.lemmas.Slice.Zip.{AllZip-long}
 use Rattle.statement.specs.declared.lines.Fault.{Fault}
 use Rattle.statement.specs.declared.lines.Point.{Point}
 use Rattle.netlist.specs.Conditions.{IsSound}
+use Rattle.netlist.specs.Designs.{IsDesign}
 use Rattle.netlist.specs.Lines.{IsLineOf}
 use Rattle.statement.specs.Netlists.{Netlist}
 use Rattle.netlist.proofs.Lists.{contains_head}
@@ -31,7 +33,7 @@ use Rattle.transition_tests.specs.Verdicts.{AreKnown, AreTests, IsKnown, IsNeede
 use Rattle.transition_tests.specs.Making.{AreFilledFrom, AreMadeFrom, cubes_in}
 use Rattle.transition_tests.specs.inner.Cubes.{BeginsWith, HasAgreeing}
 use Rattle.transition_tests.specs.inner.Ends.{AreVerdictsOf, IsVerdictOf, IsDetectedIfTested}
-use Rattle.transition_tests.proofs.CubeLemmas.{all_cubes, frame_cube, other_cube}
+use Rattle.transition_tests.proofs.CubeLemmas.{all_cubes, few_faults, few_patterns, frame_cube, other_cube}
 
 -- ---- which faults a batch leaves
 
@@ -63,7 +65,7 @@ module _ (n : Netlist) (holds : Holds) (limit : ℕ) (refutes : Bool) (batch : L
   )
 
   -- the cubes of what is known are cubes of the netlist
-  pub known_fit : (faults : List Fault) (found : List (Option Found)) → AllZip (IsKnown n holds limit refutes batch) faults found → All (IsCubeOf n holds) (cubes_in found)
+  known_fit : (faults : List Fault) (found : List (Option Found)) → AllZip (IsKnown n holds limit refutes batch) faults found → All (IsCubeOf n holds) (cubes_in found)
   known_fit [] [] are = All-nil (IsCubeOf n holds)
   known_fit [] (x ∷ found) are = elim are [ ]
   known_fit (f ∷ faults) [] are = elim are [ ]
@@ -72,6 +74,20 @@ module _ (n : Netlist) (holds : Holds) (limit : ℕ) (refutes : Bool) (batch : L
   known_fit (f ∷ faults) (Some (Closed t) ∷ found) are = known_fit faults found are.1
   known_fit (f ∷ faults) (Some (Refuted s) ∷ found) are = known_fit faults found are.1
   known_fit (f ∷ faults) (Some (Partial t) ∷ found) are = known_fit faults found are.1
+
+-- the same of answers as they are seen
+pub seen_fit : (n : Netlist) (holds : Holds) (limit : ℕ) (refutes : Bool) (batch : List Pattern) (found seen : List (Option Found)) → seen ≡ found
+    → AreKnown n holds limit refutes batch found → All (IsCubeOf n holds) (cubes_in seen)
+seen_fit n holds limit refutes batch found seen same known =
+    subst (λ (xs : List (Option Found)). All (IsCubeOf n holds) (cubes_in xs)) (sym same) (known_fit n holds limit refutes batch (universe_of n) found known)
+
+-- behind the batch their patterns are few
+pub known_few : (n : Netlist) → IsSound n → IsDesign n → (holds : Holds) (limit : ℕ) (refutes : Bool) (batch patterns : List Pattern) (found seen : List (Option Found)) → seen ≡ found
+    → AreKnown n holds limit refutes batch found → length batch ≤ length (universe_of n) + 64 → length patterns ≤ length batch + length (cubes_in seen) → length patterns + 64 ≤ 2 ^ 32
+known_few n sound design holds limit refutes batch patterns found seen same known small fewer =
+    let size = AllZip-long (IsKnown n holds limit refutes batch) (universe_of n) found known in
+    let cubes = ap (λ (xs : List (Option Found)). length (cubes_in xs)) same in
+    few_patterns (universe_of n) found batch patterns (omega (arith, size)) (few_faults n sound design) small (omega (arith, fewer, cubes))
 
 -- the cubes of what was found are cubes of the netlist
 pub cubes_fit : (n : Netlist) (holds : Holds) (limit : ℕ) (refutes : Bool) (left : List Bool) (found : List (Option Found))
