@@ -21,13 +21,10 @@ use Rattle.transition_report.specs.Texts.{transition_text}
 use Rattle.check_parts.specs.Firsts.{IsOfFault}
 use Rattle.check_parts.specs.Strays.{IsStrayAt}
 use Rattle.check_parts.proofs.FirstLemmas.{fault_at, stands_in}
+use Rattle.check_parts.proofs.Lists.{same_some}
 use Rattle.good_slow_files.specs.GoodSlowFiles.{AreTrueSlowFaults, AreTrueSlowLines, IsTrueOfSlow, IsTrueSlowAt, SlowTest, slow_left_of}
 use Rattle.good_slow_files.specs.Clauses.{IsFurtherSlow, IsStraySlow}
-use Rattle.slow_check.specs.inner.Walking.{AreTrueBelow}
 use Rattle.slow_check.proofs.LeftLemmas.{order_true}
-
-same_some : {X : Type 0} (x y : X) → Some x ≡ Some y → x ≡ y
-same_some x y e = cc
 
 -- ---- a line
 
@@ -53,19 +50,23 @@ true_so t lines place f line member said w =
 
 -- ---- lines
 
-enough_lines : (t : SlowTest) (lines : List Line) (count : ℕ) → AreTrueBelow t lines count → count ≤ length lines
+-- so many slow lines have true lines
+abbrev pub AreBelow : SlowTest → List Line → ℕ → Type 0
+AreBelow t lines count = (k : ℕ) → k < count → IsTrueSlowAt t lines k
+
+enough_lines : (t : SlowTest) (lines : List Line) (count : ℕ) → AreBelow t lines count → count ≤ length lines
 enough_lines t lines zero below = omega arith
 enough_lines t lines (suc k) below =
     let last = below k (omega arith) in
     let lt = slice_get_within lines k last.line last.said in
     omega arith
 
-pub all_lines : (t : SlowTest) (lines : List Line) → AreTrueBelow t lines (length (universe_of t.netlist)) → length lines ≤ length (universe_of t.netlist) → AreTrueSlowLines t lines
+pub all_lines : (t : SlowTest) (lines : List Line) → AreBelow t lines (length (universe_of t.netlist)) → length lines ≤ length (universe_of t.netlist) → AreTrueSlowLines t lines
 all_lines t lines below few =
     let enough = enough_lines t lines (length (universe_of t.netlist)) below in
     record { each = below; no_more = omega arith }
 
-pub further_line : (t : SlowTest) (lines : List Line) (line : Line) (at : ℕ) (text : List ℕ) → AreTrueBelow t lines (length (universe_of t.netlist))
+pub further_line : (t : SlowTest) (lines : List Line) (line : Line) (at : ℕ) (text : List ℕ) → AreBelow t lines (length (universe_of t.netlist))
     → at ≡ length (universe_of t.netlist) → slice_get lines at ≡ Some line → text ≡ line.fault → IsFurtherSlow t lines text
 further_line t lines line at text below is here names_it = record { line = line; each = below; further = ap (slice_get lines) (sym is) ∙ here; names_it = names_it }
 
@@ -80,10 +81,11 @@ all_true t sound lines are same = record {
 }
 
 pub stray_named : (t : SlowTest) (lines : List Line) → AreTrueSlowLines t lines → (place : ℕ) (p : Fault × Evidence) (text : List ℕ)
-    → IsStrayAt t.evidence (slow_left_of (universe_of t.netlist) lines) place → p ≡ get_or t.evidence place p → text ≡ transition_text t.netlist p.0 → IsStraySlow t lines text
-stray_named t lines are place p text stray read names_it =
-    let at = fault_at t.evidence place p stray.within read in
-    record { lines_true = are; place = place; fault = p.0; at = at; before = stray.before; stray = stray.stray p.0 at; names_it = names_it }
+    → IsStrayAt t.evidence (slow_left_of (universe_of t.netlist) lines) place → text ≡ transition_text t.netlist (get_or t.evidence place p).0 → IsStraySlow t lines text
+stray_named t lines are place p text stray names_it =
+    let q = get_or t.evidence place p in
+    let at = fault_at t.evidence place q stray.within (get_or_default t.evidence place p q stray.within) in
+    record { lines_true = are; place = place; fault = q.0; at = at; before = stray.before; stray = stray.stray q.0 at; names_it = names_it }
 
 -- there are fewer than 2 ^ 32
 pub few_of : FewFaults → (n : Netlist) → IsSound n → IsDesign n → length (universe_of n) < 2 ^ 32

@@ -1,7 +1,6 @@
 -- A pattern and a point are seen in one cycle at one pin, by launch on capture.
-use Rattle.std.proofs.Common.{◌≡◌, ◌≢◌, ℕ, ◌∙◌, Bool, MatchBool, List, length, Option, Some, sym, ap, subst, arith}
+use Rattle.std.proofs.Common.{◌≡◌, ℕ, ◌∙◌, List, length, Some, sym, ap, arith}
 use Rattle.std.specs.List.{slice_get}
-use Rattle.std.specs.Str.{bytes_eq}
 use Rattle.statement.specs.declared.lines.Point.{Point}
 use Rattle.statement.specs.declared.lines.Point.TheVariants.{Output, Cell}
 use Rattle.statement.specs.Netlists.{Netlist}
@@ -12,13 +11,7 @@ use Rattle.scan_insert.specs.Scanned.{AreChainsOf, scanned_of}
 use Rattle.transition_play.specs.LaunchVectors.{IsLaunchStrobedAt, second_unload}
 use Rattle.transition_report.specs.Strobes.{IsLaunchSeenAt}
 use Rattle.check_parts.proofs.CellPlaces.{cells_once, place_once}
-use Rattle.check_parts.proofs.Matches.{texts_match}
-use Rattle.slow_check.specs.inner.Walking.{IsLastSeen}
-
-same_some : {X : Type 0} (x y : X) → Some x ≡ Some y → x ≡ y
-same_some x y e = cc
-
--- ---- strobes
+use Rattle.check_parts.proofs.Lists.{same_some}
 
 module _ (n : Netlist) (sound : IsSound n) (chains : List (List ℕ)) (are : AreChainsOf n chains) where
   strobed_once : (place : ℕ) (point : Point) (c o d u : ℕ) → IsLaunchStrobedAt n chains place point c o → IsLaunchStrobedAt n chains place point d u → (c ≡ d) × (o ≡ u)
@@ -35,24 +28,3 @@ module _ (n : Netlist) (sound : IsSound n) (chains : List (List ℕ)) (are : Are
   seen_once place point c d pin other p q =
       let w = strobed_once place point c p.0 d q.0 p.1 q.1 in
       (w.0, p.2 ∙ (ap (pin_name_of (scanned_of n chains)) w.1 ∙ sym q.2))
-
--- ---- what is found, and what is said
-
-module _ (n : Netlist) (sound : IsSound n) (chains : List (List ℕ)) (are : AreChainsOf n chains) (found : Option (ℕ × Point)) (last : ℕ) (point : Point)
-    (is : found ≡ Some (last, point)) (cycle : ℕ) (pin : List ℕ) (seen : IsLaunchSeenAt n chains last point cycle pin) where
-  as_found : (p d : ℕ) (other : List ℕ) → IsLastSeen n chains found p d other → IsLastSeen n chains (Some (last, point)) p d other
-  as_found p d other so = subst (λ (g : Option (ℕ × Point)). IsLastSeen n chains g p d other) is so
-
-  -- in another cycle it isn't seen
-  pub unseen_cycle : (p d : ℕ) (other : List ℕ) → d ≢ cycle → IsLastSeen n chains found p d other → ⊥
-  unseen_cycle p d other apart so = let w = as_found p d other so in apart (seen_once n sound chains are last point d cycle other pin w.1 seen).0
-
-  -- in its cycle it is seen at its pin
-  pub seen_pin : (b : Bool) (p d : ℕ) (other : List ℕ) → b ≡ bytes_eq other pin → p ≡ last → d ≡ cycle → MatchBool b (IsLastSeen n chains found p d other) (IsLastSeen n chains found p d other → ⊥)
-  seen_pin b p d other eq place same =
-      texts_match (IsLastSeen n chains found p d other) b other pin eq
-      (λ pins.
-      let at : IsLaunchSeenAt n chains last point d other =
-      subst (λ (t : List ℕ). IsLaunchSeenAt n chains last point d t) (sym pins) (subst (λ (k : ℕ). IsLaunchSeenAt n chains last point k pin) (sym same) seen) in
-      subst (λ (g : Option (ℕ × Point)). IsLastSeen n chains g p d other) (sym is) (place, at))
-      (λ so. let w = as_found p d other so in (seen_once n sound chains are last point d cycle other pin w.1 seen).1)

@@ -1,9 +1,8 @@
 -- A line of the report, as the walk through the universe sees it.
-use Rattle.std.proofs.Common.{◌≡◌, ℕ, zero, suc, ◌<◌, ◌∙◌, Bool, true, false, MatchBool, List, [], ◌∷◌, ◌++◌, length, get_or, Option, Some, Result, Ok, Err, IfOk, sym, ap, subst, arith}
-use Rattle.std.specs.List.{AllZip, slice_get}
+use Rattle.std.proofs.Common.{◌≡◌, ℕ, ◌<◌, ◌∙◌, Bool, true, false, MatchBool, List, [], ◌++◌, length, get_or, Option, Some, Result, Ok, Err, IfOk, sym, ap, subst}
+use Rattle.std.specs.List.{slice_get}
 use Rattle.std.specs.Str.{bytes_eq}
 use Rattle.std.proofs.lemmas.Option.{slice_get_within}
-use Rattle.std.proofs.lemmas.Slice.Zip.{AllZip-long}
 use Rattle.statement.specs.declared.lines.Fault.{Fault}
 use Rattle.statement.specs.declared.lines.Point.{Point}
 use Rattle.statement.specs.Netlists.{Netlist}
@@ -11,39 +10,27 @@ use Rattle.statement.specs.Faults.{universe_of}
 use Rattle.statement.specs.Reports.{Line}
 use Rattle.transition_sim.specs.Detections.{LastTransition}
 use Rattle.transition_report.specs.Texts.{transition_text}
+use Rattle.check_parts.proofs.Lists.{zip_at, zip_long}
 use Rattle.check_parts.proofs.Matches.{texts_match}
 use Rattle.good_slow_files.specs.GoodSlowFiles.{IsTrueOfSlow, IsTrueSlowAt, SlowTest}
 use Rattle.slow_check.specs.declared.walking.Walk.{Walk}
 use Rattle.slow_check.specs.inner.Walking.{IsReady}
 use Rattle.slow_check.proofs.FaultLemmas.{named_so, true_at, true_so}
 
-same_some : {X : Type 0} (x y : X) → Some x ≡ Some y → x ≡ y
-same_some x y e = cc
-
--- what holds of two lists, place by place, holds where one is read
-zip_at : {A B : Type 0} (R : A → B → Type 0) (xs : List A) (ys : List B) (k : ℕ) (x : A) (d : B) → AllZip R xs ys → slice_get xs k ≡ Some x → R x (get_or ys k d)
-zip_at R [] [] k x d all at = cc
-zip_at R [] (y ∷ ys) k x d all at = absurd all
-zip_at R (a ∷ xs) [] k x d all at = absurd all
-zip_at R (a ∷ xs) (y ∷ ys) zero x d all at = let same : a ≡ x = same_some a x at in subst (λ b. R b y) same all.0
-zip_at R (a ∷ xs) (y ∷ ys) (suc k) x d all at = zip_at R xs ys k x d all.1 at
-
 module _ (w : Walk) (ready : IsReady w) (place : ℕ) where
   -- the slow line at a place
-  pub member_at : (f : Fault) → slice_get w.faults.now place ≡ Some f → slice_get (universe_of w.trial.now.core) place ≡ Some f
+  pub member_at : (f : Fault) → slice_get w.faults.now place ≡ Some f → slice_get (universe_of w.trial.now.netlist.now) place ≡ Some f
   member_at f at = ap (λ (fs : List Fault). slice_get fs place) (sym ready.faults) ∙ at
 
   -- where it is last detected
   pub last_at : (f : Fault) (d : Option (ℕ × Point)) → slice_get w.faults.now place ≡ Some f
-      → LastTransition w.trial.now.core w.trial.now.patterns.items f (get_or w.lasts.now place d)
+      → LastTransition w.trial.now.netlist.now w.trial.now.patterns.now f (get_or w.lasts.now place d)
   last_at f d at =
-      zip_at (LastTransition w.trial.now.core w.trial.now.patterns.items) (universe_of w.trial.now.core) w.lasts.now place f d ready.lasts (member_at f at)
+      zip_at (LastTransition w.trial.now.netlist.now w.trial.now.patterns.now) (universe_of w.trial.now.netlist.now) w.lasts.now place f d ready.lasts.each (member_at f at)
 
   -- there are as many places
-  pub lasts_long : place < length (universe_of w.trial.now.core) → place < length w.lasts.now
-  lasts_long lt =
-      let all = AllZip-long (LastTransition w.trial.now.core w.trial.now.patterns.items) (universe_of w.trial.now.core) w.lasts.now ready.lasts in
-      omega (arith, all, lt)
+  pub lasts_long : place < length (universe_of w.trial.now.netlist.now) → place < length w.lasts.now
+  lasts_long lt = zip_long (LastTransition w.trial.now.netlist.now w.trial.now.patterns.now) (universe_of w.trial.now.netlist.now) w.lasts.now place ready.lasts.each lt
 
 -- ---- what the walk answers
 
@@ -68,11 +55,8 @@ pub ended : (t : SlowTest) (lines : List Line) (place : ℕ) → ¬ (place < len
 ended t lines place past is = past (slice_get_within lines place is.line is.said)
 
 -- a text that is compared
-pub text_named : (n core : Netlist) (f : Fault) (cleared text read : List ℕ) → n ≡ core → cleared ≡ [] → text ≡ cleared ++ transition_text n f → read ≡ text → read ≡ transition_text core f
-text_named n core f cleared text read own none value is =
-    is ∙ (value ∙ (ap (λ (t : List ℕ). t ++ transition_text n f) none ∙ ap (λ (m : Netlist). transition_text m f) own))
-
--- it is compared with what a line names
-pub compared : {own : List ℕ} (b : Bool) (read line : List ℕ) → b ≡ bytes_eq read line → read ≡ own → MatchBool b (line ≡ own) (¬ (line ≡ own))
-compared {own} b read line is named =
-    texts_match (line ≡ own) b read line is (λ same. sym same ∙ named) (λ same. named ∙ sym same)
+pub compared : (n : Netlist) (f : Fault) (b : Bool) (cleared text read line : List ℕ) → cleared ≡ [] → text ≡ cleared ++ transition_text n f → read ≡ text → b ≡ bytes_eq read line
+    → MatchBool b (line ≡ transition_text n f) (¬ (line ≡ transition_text n f))
+compared n f b cleared text read line none value is eq =
+    let own : read ≡ transition_text n f = is ∙ (value ∙ ap (λ (t : List ℕ). t ++ transition_text n f) none) in
+    texts_match (line ≡ transition_text n f) b read line eq (λ same. sym same ∙ own) (λ same. own ∙ sym same)

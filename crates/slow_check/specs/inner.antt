@@ -1,6 +1,5 @@
 -- What the contracts of private functions cite.
 pub mod Trials
-pub mod Evident
 pub mod Walking
 pub mod Totals
 pub mod Reading

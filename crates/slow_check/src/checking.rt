@@ -1,6 +1,7 @@
 //! The check of five files of slow lines.
 //!
-//! What is large is let go by `drop`, in one call. At the end of a scope each list in it would be let go apart, and each takes the prover a step.
+//! What is large is owned by one function, behind which one call borrows it, and is let go by `drop`, in one call. At the end of a scope each list in it
+//! would be let go apart, and each takes the prover a step.
 ghost use Rattle.std.specs.Prelude.{◌≡◌, ◌<◌, ◌≤◌, ◌+◌, ◌^◌, length, IfOk};
 ghost use Rattle.bench_text.specs.Bytes.{lines};
 ghost use Rattle.scan_insert.specs.Scanned.{scanned_of};
@@ -15,33 +16,30 @@ ghost use Rattle.slow_check.specs.inner.Trials.{IsSlowTrial, slow_test_of};
 ghost use Rattle.slow_check.specs.inner.Walking.{IsReady};
 
 use crate::faults::false_fault;
+use crate::findings::findings_of;
 use crate::reading::{Said, said_of};
 use crate::totals::has_totals;
 use crate::trials::SlowTrial;
 use crate::walking::Walk;
-use check_parts::{Firsts, FiveTexts, Stitched, holds_by, scanned_as};
+use check_parts::{FiveTexts, Stitched, holds_by, scanned_as};
 use cubes::Pattern;
-use fault_universe::{faults_have_lines, few_faults, universe};
 use good_files::{CheckFault, Checked, Clause};
 use good_slow_files::slow_checked_is_good;
-use netlist::{Holds, Netlist, NoMemory};
+use netlist::{Core, Holds, Netlist, NoMemory};
 use run_report::pin_names;
 use std::alloc::Global;
 use stil_read::laws::items_take_bytes;
 use transition_files::launch_patterns_of;
 use transition_frames::frame_names;
 use transition_report::TransitionReport;
-use transition_sim::last_tells2;
 
 /// What is false of the slow lines or the totals, or how many there are.
 fn verdict_of(alloc: Global, walk: &Walk<'_>, said: &TransitionReport) -> Result<Checked, NoMemory>
     requires ready { IsReady walk.now }
-    requires few { length walk.now.trial.now.patterns.items < 2 ^ 32 }
+    requires lines { walk.now.lines.now ≡ said.now.lines }
     ensures { IfOk result (IsVerdict (slow_test_of walk.now.trial.now) said.now) }
 {
-    walk.trial.core.netlist().sound();
-    few_faults();
-    if let Some(text) = false_fault(alloc, walk, &said.lines)? {
+    if let Some(text) = false_fault(alloc, walk)? {
         return Ok(Checked::False(Clause::Fault(text)));
     }
     let count = walk.faults.len();
@@ -54,126 +52,116 @@ fn verdict_of(alloc: Global, walk: &Walk<'_>, said: &TransitionReport) -> Result
 /// What is found of the test: its patterns are simulated in two frames, and its evidence is checked, once for each slow line that is left.
 fn tried(
     alloc: Global,
-    trial: &SlowTrial,
+    core: &Core,
+    trial: &SlowTrial<'_>,
     scanned: &Netlist,
     said: &TransitionReport,
 ) -> Result<Checked, NoMemory>
     requires trial { IsSlowTrial trial.now }
-    requires few { length trial.now.patterns.items + 64 ≤ 2 ^ 32 }
-    requires scanned { scanned.now ≡ scanned_of trial.now.core trial.now.chains }
+    requires own { core.now ≡ trial.now.netlist.now }
+    requires scanned { scanned.now ≡ scanned_of trial.now.netlist.now trial.now.chains.now }
     ensures { IfOk result (IsVerdict (slow_test_of trial.now) said.now) }
 {
-    let netlist = trial.core.netlist();
-    netlist.sound();
-    faults_have_lines();
-    few_faults();
     let pins = pin_names(alloc, scanned)?;
-    let names = frame_names(alloc, netlist)?;
-    let faults = universe(alloc, netlist)?;
-    let lasts = last_tells2(alloc, &trial.core, &faults, &trial.patterns)?;
-    let firsts = Firsts::of(alloc, netlist, &trial.evidence)?;
+    let names = frame_names(alloc, trial.netlist)?;
+    let findings = findings_of(alloc, core, trial)?;
     let walk = Walk {
         trial,
-        faults: &faults,
+        faults: &findings.faults,
         pins: &pins,
         names: &names,
-        lasts: &lasts,
-        firsts: &firsts,
+        lasts: &findings.lasts,
+        firsts: &findings.firsts,
+        lines: &said.lines,
     };
-    verdict_of(alloc, &walk, said)
+    let verdict = verdict_of(alloc, &walk, said);
+    drop((pins, names, findings));
+    verdict
 }
 
 /// What is found of a test with these held inputs, chains and patterns.
 fn posed(
     alloc: Global,
-    said: Said,
-    made: Stitched,
-    holds: Holds,
+    said: &Said,
+    made: &Stitched,
+    holds: &Holds,
     patterns: Vec<Pattern>,
 ) -> Result<Checked, NoMemory>
-    requires said { IsPosed said }
-    requires made { IsStitched said.core (design_chains said.core (slow_chains_said said.report)) made }
-    requires held { AreHeldBy said.core said.report.holds holds }
-    requires patterns { AreLaunchPatternsOf said.core holds made.chains said.file patterns.items }
-    ensures { IfOk result (IsPosedAnswer said holds patterns.items) }
+    requires said { IsPosed said.now }
+    requires made { IsStitched said.now.core (design_chains said.now.core (slow_chains_said said.now.report)) made.now }
+    requires held { AreHeldBy said.now.core said.now.report.holds holds.now }
+    requires patterns { AreLaunchPatternsOf said.now.core holds.now made.now.chains said.now.file patterns.items }
+    ensures { IfOk result (IsPosedAnswer said.now holds.now patterns.items) }
 {
-    let Said {
-        core,
-        file,
-        evidence,
-        report,
-    } = said;
-    drop(file);
-    let limit = report.counts.limit;
-    let Stitched { chains, scanned } = made;
     let trial = SlowTrial {
-        core,
-        chains,
+        netlist: said.core.netlist(),
+        chains: &made.chains,
         holds,
-        limit,
-        patterns,
-        evidence,
+        limit: said.report.counts.limit,
+        patterns: &patterns,
+        evidence: &said.evidence,
     };
-    let answer = tried(alloc, &trial, scanned.netlist(), &report);
-    drop((trial, scanned, report));
+    let answer = tried(
+        alloc,
+        &said.core,
+        &trial,
+        made.scanned.netlist(),
+        &said.report,
+    );
+    drop(patterns);
     answer
 }
 
 /// The same, if the STIL file is that of patterns by launch on capture which obey the held inputs.
-fn with_holds(alloc: Global, said: Said, made: Stitched, holds: Holds) -> Result<Checked, NoMemory>
-    requires said { IsPosed said }
-    requires made { IsStitched said.core (design_chains said.core (slow_chains_said said.report)) made }
-    requires held { AreHeldBy said.core said.report.holds holds }
-    ensures { IfOk result (IsHeldAnswer said holds) }
+fn with_holds(
+    alloc: Global,
+    said: &Said,
+    made: &Stitched,
+    holds: &Holds,
+) -> Result<Checked, NoMemory>
+    requires said { IsPosed said.now }
+    requires made { IsStitched said.now.core (design_chains said.now.core (slow_chains_said said.now.report)) made.now }
+    requires held { AreHeldBy said.now.core said.now.report.holds holds.now }
+    ensures { IfOk result (IsHeldAnswer said.now holds.now) }
 {
-    match launch_patterns_of(alloc, &said.core, &made.chains, &said.file, &holds) {
+    match launch_patterns_of(alloc, &said.core, &made.chains, &said.file, holds) {
         Ok(Some(patterns)) => posed(alloc, said, made, holds, patterns),
-        Ok(None) => {
-            drop((said, made, holds));
-            Ok(Checked::False(Clause::StilDiffers))
-        }
-        Err(NoMemory) => {
-            drop((said, made, holds));
-            Err(NoMemory)
-        }
+        Ok(None) => Ok(Checked::False(Clause::StilDiffers)),
+        Err(NoMemory) => Err(NoMemory),
     }
 }
 
 /// The same, if the report's held inputs are inputs, each once at most, in their order.
-fn with_scan(alloc: Global, said: Said, made: Stitched) -> Result<Checked, NoMemory>
-    requires said { IsPosed said }
-    requires made { IsStitched said.core (design_chains said.core (slow_chains_said said.report)) made }
-    ensures { IfOk result (IsScanAnswer said) }
+fn with_scan(alloc: Global, said: &Said, made: &Stitched) -> Result<Checked, NoMemory>
+    requires said { IsPosed said.now }
+    requires made { IsStitched said.now.core (design_chains said.now.core (slow_chains_said said.now.report)) made.now }
+    ensures { IfOk result (IsScanAnswer said.now) }
 {
     match holds_by(alloc, &said.core, &said.report.holds) {
-        Ok(Some(holds)) => with_holds(alloc, said, made, holds),
-        Ok(None) => {
-            drop((said, made));
-            Ok(Checked::False(Clause::HoldDiffers))
+        Ok(Some(holds)) => {
+            let answer = with_holds(alloc, said, made, &holds);
+            drop(holds);
+            answer
         }
-        Err(NoMemory) => {
-            drop((said, made));
-            Err(NoMemory)
-        }
+        Ok(None) => Ok(Checked::False(Clause::HoldDiffers)),
+        Err(NoMemory) => Err(NoMemory),
     }
 }
 
 /// The first clause that is false of what the texts stand for, or how many slow lines there are.
-fn answer_of(alloc: Global, said: Said, scan: &[u8]) -> Result<Checked, NoMemory>
-    requires { IsPosed said }
-    ensures { IfOk result (IsSlowAnswer (contents_of scan.now said)) }
+fn answer_of(alloc: Global, said: &Said, scan: &[u8]) -> Result<Checked, NoMemory>
+    requires { IsPosed said.now }
+    ensures { IfOk result (IsSlowAnswer (contents_of scan.now said.now)) }
 {
     let count = said.report.counts.chains;
     match scanned_as(alloc, said.core.netlist(), count, scan) {
-        Ok(Some(made)) => with_scan(alloc, said, made),
-        Ok(None) => {
-            drop(said);
-            Ok(Checked::False(Clause::ScanDiffers))
+        Ok(Some(made)) => {
+            let answer = with_scan(alloc, said, &made);
+            drop(made);
+            answer
         }
-        Err(NoMemory) => {
-            drop(said);
-            Err(NoMemory)
-        }
+        Ok(None) => Ok(Checked::False(Clause::ScanDiffers)),
+        Err(NoMemory) => Err(NoMemory),
     }
 }
 
@@ -206,7 +194,9 @@ pub fn check_slow_files(
     said.core.netlist().sound();
     items_take_bytes();
     slow_checked_is_good();
-    match answer_of(alloc, said, scan) {
+    let answer = answer_of(alloc, &said, scan);
+    drop(said);
+    match answer {
         Ok(answer) => Ok(answer),
         Err(NoMemory) => Err(CheckFault::NoMemory),
     }

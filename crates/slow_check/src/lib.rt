@@ -11,6 +11,7 @@
 mod checking;
 mod evident;
 mod faults;
+mod findings;
 mod leftovers;
 mod reading;
 mod totals;

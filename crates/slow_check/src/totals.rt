@@ -1,5 +1,5 @@
 //! The numbers above the report's lines.
-ghost use Rattle.std.specs.Prelude.{◌≡◌, ◌+◌, ◌<◌, ◌≤◌, ◌^◌, length, MatchBool};
+ghost use Rattle.std.specs.Prelude.{◌≡◌, ◌<◌, length, MatchBool};
 ghost use Rattle.statement.specs.Faults.{universe_of};
 ghost use Rattle.good_slow_files.specs.GoodSlowFiles.{AreSlowTotals};
 ghost use Rattle.slow_check.specs.inner.Totals.{HasCounts, HasShares};
@@ -21,18 +21,15 @@ fn has_shares(faults: u32, said: &TransitionReport) -> bool
 }
 
 /// Whether the counts are those that follow.
-fn has_counts(trial: &SlowTrial, faults: u32, said: &TransitionReport) -> bool
-    requires trial { IsSlowTrial trial.now }
-    requires few { length trial.now.patterns.items < 2 ^ 32 }
+fn has_counts(trial: &SlowTrial<'_>, faults: u32, said: &TransitionReport) -> bool
+    requires { IsSlowTrial trial.now }
     ensures { MatchBool result (HasCounts (slow_test_of trial.now) faults said.now) (¬ HasCounts (slow_test_of trial.now) faults said.now) }
 {
-    let netlist = trial.core.netlist();
-    netlist.sound();
     let patterns = trial.patterns.len() as u32;
     let cycles = launch_cycles(trial.chains.longest() as u64, patterns as u64);
     let counts = counts_with(
-        netlist,
-        &trial.chains,
+        trial.netlist,
+        trial.chains,
         faults,
         faults,
         patterns,
@@ -44,11 +41,10 @@ fn has_counts(trial: &SlowTrial, faults: u32, said: &TransitionReport) -> bool
 }
 
 /// Whether the numbers above the lines are those that follow.
-pub(crate) fn has_totals(trial: &SlowTrial, faults: u32, said: &TransitionReport) -> bool
+pub(crate) fn has_totals(trial: &SlowTrial<'_>, faults: u32, said: &TransitionReport) -> bool
     requires trial { IsSlowTrial trial.now }
-    requires faults { faults ≡ length (universe_of trial.now.core) }
-    requires some { 0 < length (universe_of trial.now.core) }
-    requires few { length trial.now.patterns.items < 2 ^ 32 }
+    requires faults { faults ≡ length (universe_of trial.now.netlist.now) }
+    requires some { 0 < length (universe_of trial.now.netlist.now) }
     ensures { MatchBool result
         (AreSlowTotals (slow_test_of trial.now) said.now)
         (¬ AreSlowTotals (slow_test_of trial.now) said.now) }

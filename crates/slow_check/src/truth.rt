@@ -1,76 +1,52 @@
 //! Whether what a line of the report says of a slow line is true.
-ghost use Rattle.std.specs.Prelude.{◌≡◌, ◌<◌, length, map, IfOk, IfSome, MatchBool, MatchOption};
+ghost use Rattle.std.specs.Prelude.{◌≡◌, IfOk, IfSome, MatchBool};
 ghost use Rattle.std.specs.List.{Contains};
 ghost use Rattle.statement.specs.Faults.{universe_of};
-ghost use Rattle.statement.specs.Runs.{output_name};
-ghost use Rattle.scan_insert.specs.Scanned.{AreChainsOf, scanned_of};
 ghost use Rattle.run_report.specs.Strobes.{IsPointOf};
 ghost use Rattle.transition_sim.specs.Detections.{LastTransition};
-ghost use Rattle.good_slow_files.specs.GoodSlowFiles.{IsSlowSeen, IsTrueOfSlow};
+ghost use Rattle.transition_report.specs.Strobes.{IsLaunchSeenAt};
+ghost use Rattle.check_parts.specs.Ends.{IsLeftOpenBy, IsShutBy};
+ghost use Rattle.check_parts.specs.Sights.{IsSeenBy};
+ghost use Rattle.good_slow_files.specs.GoodSlowFiles.{IsTrueOfSlow};
 ghost use Rattle.slow_check.specs.inner.Trials.{slow_test_of};
-ghost use Rattle.slow_check.specs.inner.Evident.{IsFirstShown, NoFirstShown};
-ghost use Rattle.slow_check.specs.inner.Walking.{IsLastSeen, IsLeftOpenBy, IsReady, IsShownOpen, IsShownShut, IsShutBy};
+ghost use Rattle.slow_check.specs.inner.Walking.{IsReady, IsShownOpen, IsShownShut};
 
 use crate::evident::first_ends;
 use crate::walking::Walk;
-use netlist::{Fault, NameTable, Netlist, NoMemory, Point};
+use netlist::{Fault, NoMemory, Point};
 use redundancy_cert::Counts;
 use report::{FaultLine, Outcome};
-use scan_insert::Chains;
 use std::alloc::Global;
 use transition_report::sight_behind;
 
 /// Whether the last pattern that detects the slow line is this one, and its first point is seen in this cycle at this pin.
 fn is_seen_so(
-    netlist: &Netlist,
-    chains: &Chains,
-    pins: &NameTable,
+    walk: &Walk<'_>,
     last: &Option<(u32, Point)>,
     place: u64,
     cycle: u64,
     pin: &[u8],
 ) -> bool
-    requires chains { AreChainsOf netlist.now chains.now }
-    requires pins { pins.now ≡ map (output_name (scanned_of netlist.now chains.now)) (scanned_of netlist.now chains.now).outputs }
-    requires inside { IfSome last.now (λ w. IsPointOf netlist.now w.1) }
-    ensures { MatchBool result (IsLastSeen netlist.now chains.now last.now place cycle pin.now) (¬ IsLastSeen netlist.now chains.now last.now place cycle pin.now) }
+    requires ready { IsReady walk.now }
+    requires inside { IfSome last.now (λ w. IsPointOf walk.now.trial.now.netlist.now w.1) }
+    ensures { MatchBool result
+        (IsSeenBy (IsLaunchSeenAt walk.now.trial.now.netlist.now walk.now.trial.now.chains.now) last.now place cycle pin.now)
+        (¬ IsSeenBy (IsLaunchSeenAt walk.now.trial.now.netlist.now walk.now.trial.now.chains.now) last.now place cycle pin.now) }
 {
-    netlist.sound();
+    let trial = walk.trial;
     match last {
         None => false,
         Some((own, point)) => {
             if place != *own as u64 {
                 return false;
             }
-            let sight = sight_behind(netlist, chains, pins, *own, *point);
+            let sight = sight_behind(trial.netlist, trial.chains, walk.pins, *own, *point);
             if cycle != sight.cycle {
                 return false;
             }
             pin == sight.pin
         }
     }
-}
-
-/// The ends of the slow line's first evidence, where there is some and it shows the line.
-fn left_ends(alloc: Global, walk: &Walk<'_>, fault: &Fault) -> Result<Option<Counts>, NoMemory>
-    requires ready { IsReady walk.now }
-    requires member { Contains (universe_of walk.now.trial.now.core) fault.now }
-    ensures { IfOk result (λ o. MatchOption o
-        (NoFirstShown walk.now.trial.now.core walk.now.trial.now.holds walk.now.trial.now.evidence.items fault.now)
-        (IsFirstShown walk.now.trial.now.core walk.now.trial.now.holds walk.now.trial.now.evidence.items fault.now)) }
-{
-    let trial = walk.trial;
-    let netlist = trial.core.netlist();
-    let first = walk.firsts.get(netlist, &trial.evidence, fault);
-    first_ends(
-        alloc,
-        netlist,
-        walk.names,
-        &trial.evidence,
-        first,
-        *fault,
-        &trial.holds,
-    )
 }
 
 /// Whether evidence with these ends leaves nothing open.
@@ -93,27 +69,6 @@ fn is_left_open(ends: &Option<Counts>, limit: u64) -> bool
     }
 }
 
-/// Whether the last pattern that detects the slow line is this one, and the tester sees it so.
-fn is_detected(
-    walk: &Walk<'_>,
-    fault: &Fault,
-    last: &Option<(u32, Point)>,
-    place: u64,
-    cycle: u64,
-    pin: &[u8],
-) -> bool
-    requires ready { IsReady walk.now }
-    requires last { LastTransition walk.now.trial.now.core walk.now.trial.now.patterns.items fault.now last.now }
-    ensures { MatchBool result
-        (IsSlowSeen (slow_test_of walk.now.trial.now) fault.now place cycle pin.now)
-        (¬ IsSlowSeen (slow_test_of walk.now.trial.now) fault.now place cycle pin.now) }
-{
-    let _ = fault;
-    let trial = walk.trial;
-    let netlist = trial.core.netlist();
-    is_seen_so(netlist, &trial.chains, walk.pins, last, place, cycle, pin)
-}
-
 /// Whether no pattern detects the slow line, and its evidence leaves nothing open.
 fn is_redundant(
     alloc: Global,
@@ -122,14 +77,14 @@ fn is_redundant(
     last: &Option<(u32, Point)>,
 ) -> Result<bool, NoMemory>
     requires ready { IsReady walk.now }
-    requires member { Contains (universe_of walk.now.trial.now.core) fault.now }
-    requires last { LastTransition walk.now.trial.now.core walk.now.trial.now.patterns.items fault.now last.now }
+    requires member { Contains (universe_of walk.now.trial.now.netlist.now) fault.now }
+    requires last { LastTransition walk.now.trial.now.netlist.now walk.now.trial.now.patterns.now fault.now last.now }
     ensures { IfOk result (λ yes. MatchBool yes (IsShownShut (slow_test_of walk.now.trial.now) fault.now) (¬ IsShownShut (slow_test_of walk.now.trial.now) fault.now)) }
 {
     if last.is_some() {
         return Ok(false);
     }
-    let ends = left_ends(alloc, walk, fault)?;
+    let ends = first_ends(alloc, walk, fault)?;
     Ok(is_shut(&ends))
 }
 
@@ -141,14 +96,14 @@ fn is_aborted(
     last: &Option<(u32, Point)>,
 ) -> Result<bool, NoMemory>
     requires ready { IsReady walk.now }
-    requires member { Contains (universe_of walk.now.trial.now.core) fault.now }
-    requires last { LastTransition walk.now.trial.now.core walk.now.trial.now.patterns.items fault.now last.now }
+    requires member { Contains (universe_of walk.now.trial.now.netlist.now) fault.now }
+    requires last { LastTransition walk.now.trial.now.netlist.now walk.now.trial.now.patterns.now fault.now last.now }
     ensures { IfOk result (λ yes. MatchBool yes (IsShownOpen (slow_test_of walk.now.trial.now) fault.now) (¬ IsShownOpen (slow_test_of walk.now.trial.now) fault.now)) }
 {
     if last.is_some() {
         return Ok(false);
     }
-    let ends = left_ends(alloc, walk, fault)?;
+    let ends = first_ends(alloc, walk, fault)?;
     Ok(is_left_open(&ends, walk.trial.limit))
 }
 
@@ -161,16 +116,14 @@ pub(crate) fn is_true_of(
     line: FaultLine<'_>,
 ) -> Result<bool, NoMemory>
     requires ready { IsReady walk.now }
-    requires member { Contains (universe_of walk.now.trial.now.core) fault.now }
-    requires last { LastTransition walk.now.trial.now.core walk.now.trial.now.patterns.items fault.now last.now }
+    requires member { Contains (universe_of walk.now.trial.now.netlist.now) fault.now }
+    requires last { LastTransition walk.now.trial.now.netlist.now walk.now.trial.now.patterns.now fault.now last.now }
     ensures { IfOk result (λ yes. MatchBool yes
         (IsTrueOfSlow (slow_test_of walk.now.trial.now) fault.now line.entry.outcome line.entry.pin.now)
         (¬ IsTrueOfSlow (slow_test_of walk.now.trial.now) fault.now line.entry.outcome line.entry.pin.now)) }
 {
     match line.outcome {
-        Outcome::Detected(place, cycle) => {
-            Ok(is_detected(walk, fault, last, place, cycle, line.pin))
-        }
+        Outcome::Detected(place, cycle) => Ok(is_seen_so(walk, last, place, cycle, line.pin)),
         Outcome::Redundant => is_redundant(alloc, walk, fault, last),
         Outcome::Aborted => is_aborted(alloc, walk, fault, last),
         Outcome::Unasked => Ok(false),

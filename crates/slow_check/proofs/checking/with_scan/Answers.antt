@@ -5,9 +5,9 @@ use Rattle.slow_check.proofs.checking.with_scan.Goals as goal
 
 pub returns-in-Ok-Some : goal.returns-in-Ok-Some
 returns-in-Ok-Some c =
-    let s = c.args.said in
+    let s = c.args.said.now in
     let holds = c.in-Ok-Some.holds in
-    IfOk-weaker c.with_holds.result (IsHeldAnswer s holds) (IsScanAnswer s) (held_by s holds (rw c.in-Ok-Some.field-0-is at c.in-Ok-Some.ensures)) c.with_holds.ensures
+    IfOk-weaker c.with_holds-answer.result (IsHeldAnswer s holds) (IsScanAnswer s) (held_by s holds (rw c.in-Ok-Some.field-0-is at c.in-Ok-Some.ensures)) c.with_holds-answer.ensures
 
 pub returns-in-Ok-None : goal.returns-in-Ok-None
-returns-in-Ok-None c = no_hold c.args.said (rw c.in-Ok-None.field-0-is at c.in-Ok-None.ensures)
+returns-in-Ok-None c = no_hold c.args.said.now (rw c.in-Ok-None.field-0-is at c.in-Ok-None.ensures)

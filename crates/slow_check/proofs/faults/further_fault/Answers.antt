@@ -11,11 +11,11 @@ returns-then-count-len c =
     let count = c.len-count.ensures in
     let all = c.len.ensures in
     let past = c.if-count-len.true in
-    all_lines (slow_test_of w.trial.now) c.args.lines.now c.requires.below (omega arith)
+    all_lines (slow_test_of w.trial.now) w.lines.now c.requires.below (omega arith)
 
 pub returns : goal.returns
 returns c =
     let w = c.args.walk.now in
     let line : Line = record { fault = c.get.result.fault.now; outcome = c.get.result.outcome; pin = c.get.result.pin.now } in
-    further_line (slow_test_of w.trial.now) c.args.lines.now line c.len-count.result c.in_ok-from_slice.field-0.items c.requires.below
+    further_line (slow_test_of w.trial.now) w.lines.now line c.len-count.result c.in_ok-from_slice.field-0.items c.requires.below
     (c.len-count.ensures ∙ ap length c.requires.ready.faults) c.get.ensures c.in_ok-from_slice.ensures.items

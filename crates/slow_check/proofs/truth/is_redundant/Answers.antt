@@ -10,4 +10,4 @@ returns-then-is_some c =
 pub returns : goal.returns
 returns c =
     let t = slow_test_of c.args.walk.now.trial.now in
-    by_shut t c.args.fault.now (never_by t c.args.fault.now c.args.last.now (sym c.is_some.ensures ∙ c.if-is_some.false) c.requires.last) c.is_shut.result c.in_ok-ends.ends c.in_ok-ends.ensures c.is_shut.ensures
+    by_shut t c.args.fault.now (never_by t c.args.fault.now c.args.last.now (sym c.is_some.ensures ∙ c.if-is_some.false) c.requires.last) c.in_ok-ends.ends c.in_ok-ends.ensures c.is_shut.result c.is_shut.ensures

@@ -1,0 +1,12 @@
+use Rattle.slow_check.specs.inner.Trials.{slow_test_of}
+use Rattle.slow_check.proofs.TruthLemmas.{by_sight, last_inside}
+use Rattle.slow_check.proofs.truth.is_true_of.Goals as goal
+
+pub is_seen_so-requires-clause-inside : goal.is_seen_so-requires-clause-inside
+is_seen_so-requires-clause-inside c =
+    let t = c.args.walk.now.trial.now in
+    last_inside t.netlist.now c.requires.ready.trial.sound t.patterns.now c.args.fault.now c.args.last.now c.requires.last
+
+pub returns-in-Detected : goal.returns-in-Detected
+returns-in-Detected c =
+    by_sight (slow_test_of c.args.walk.now.trial.now) c.args.fault.now c.is_seen_so.result c.args.last.now c.requires.last c.in-Detected.place c.in-Detected.cycle c.args.line.pin.now c.is_seen_so.ensures
