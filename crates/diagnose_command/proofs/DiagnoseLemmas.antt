@@ -9,14 +9,18 @@ use Rattle.statement.specs.declared.lines.Fault.{Fault}
 use Rattle.bench_text.specs.declared.refusal.Names.TheVariants.{Design}
 use Rattle.statement.specs.Faults.{universe_of}
 use Rattle.fault_universe.proofs.Elements.{contains_at, slice_get_below}
-use Rattle.scan_insert.specs.Scanned.{Insertion, insertion_of}
+use Rattle.fault_collapse.specs.Numbers.{Classes}
+use Rattle.fault_collapse.specs.Classes.{AreClasses}
+use Rattle.netlist.specs.Conditions.{IsSound}
+use Rattle.scan_insert.specs.Scanned.{AreChainsOf, Insertion, insertion_of}
+use Rattle.good_files.specs.ScanOff.{design_chains}
 use Rattle.statement.specs.Runs.{Cycle}
 use Rattle.stil_read.specs.Reading.{StandsFor}
 use Rattle.statement.specs.Stils.{StilFile}
 use Rattle.diagnose.specs.Failures.{Failing}
 use Rattle.diagnose.specs.Reading.{IsLogOf}
 use Rattle.diagnose.specs.declared.failures.FailLog.{FailLog}
-use Rattle.diagnose.specs.Candidates.{AreCandidates}
+use Rattle.diagnose.specs.Candidates.{AreCandidates, IsScannedDesign}
 use Rattle.commands.specs.Names.{texts_of}
 use Rattle.commands.specs.Worked.{IsWorked}
 use Rattle.commands.specs.declared.product.Product.{Product}
@@ -24,11 +28,12 @@ use Rattle.commands.specs.declared.product.Stop.{Stop}
 use Rattle.commands.specs.declared.product.Stop.TheVariants as stop
 use Rattle.diagnose_command.specs.Diagnoses.{diagnose_due}
 use Rattle.command_steps.specs.Steps.{netlist, value}
-use Rattle.diagnose_command.specs.declared.diagnosing.Case.{Case}
+use Rattle.diagnose_command.specs.declared.cases.Case.{Case}
+use Rattle.diagnose_command.specs.declared.cases.ScannedCase.{ScannedCase}
 use Rattle.command_steps.specs.declared.refusal.Refusal.{Refusal}
 use Rattle.command_steps.specs.declared.refusal.Refusal.TheVariants.{NotLog, NotStil}
 use Rattle.command_steps.specs.Answers.{Answers}
-use Rattle.diagnose_command.specs.inner.Cases.{IsCase, ReadsCase, case_due, log_due, test_due}
+use Rattle.diagnose_command.specs.inner.Cases.{IsCase, IsScannedCase, ReadsCase, case_due, log_due, test_due}
 use Rattle.command_steps.proofs.StepLemmas.{then_worked}
 
 -- ---- what is read
@@ -82,6 +87,24 @@ module _ (chains : ℕ) (rank : Option ℕ) (vs : List (Vec ℕ Global)) (u v w 
 
   pub case_stopped : (k : ℕ) (s : Stop Refusal) → ReadsCase chains rank net stil log (Err s) → IsWorked (diagnose_due chains rank (texts_of vs)) k (Err s)
   case_stopped k s read = subst (λ (ts : List Text). IsWorked (diagnose_due chains rank ts) k (Err s)) here (undiagnosed chains rank net stil log k s read)
+
+-- ---- a scanned case
+
+module _ (c : ScannedCase) (h : IsScannedCase c) where
+  pub scanned_chains : AreChainsOf c.case.now.netlist (design_chains c.case.now.netlist c.chains)
+  scanned_chains = record { asked = c.chains; some = h.some; are = refl }
+
+  pub scanned_design : IsSound c.case.now.netlist → (faults : List Fault) (classes : Classes) → faults ≡ universe_of c.case.now.netlist → AreClasses c.case.now.netlist classes → IsScannedDesign c.scanned.now faults classes
+  scanned_design sound faults classes all are = record {
+    design = c.case.now.netlist;
+    chains = design_chains c.case.now.netlist c.chains;
+    sound = sound;
+    is_design = h.design;
+    are_chains = scanned_chains;
+    is_scanned = h.is_scanned;
+    are_faults = all;
+    are_classes = are;
+  }
 
 -- ---- what is said
 

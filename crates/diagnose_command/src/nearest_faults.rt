@@ -1,56 +1,48 @@
 //! `diagnose --rank`: the faults of a file's netlist that come nearest to what failed on the tester.
-ghost use Rattle.std.specs.Prelude.{◌≡◌, ◌<◌, ◌^◌, ◌++◌, IfOk, OnOk, Some, decimal, length};
+ghost use Rattle.std.specs.Prelude.{◌≡◌, ◌<◌, ◌++◌, IfOk, OnOk, Some, decimal, length};
 ghost use Rattle.std.specs.List.{All};
-ghost use Rattle.netlist.specs.Designs.{IsDesign};
 ghost use Rattle.netlist.specs.Lines.{signal_of};
 ghost use Rattle.statement.specs.Netlists.{signals};
 ghost use Rattle.statement.specs.Faults.{universe_of};
 ghost use Rattle.statement.specs.Tests.{vectors_in};
-ghost use Rattle.scan_insert.specs.Scanned.{insertion_of};
 ghost use Rattle.good_files.specs.ScanOff.{design_chains};
-ghost use Rattle.stil_vectors.specs.Fitting.{FitsNetlist};
 ghost use Rattle.diagnose.specs.Candidates.{IsScannedDesign};
 ghost use Rattle.diagnose.specs.Explaining.{told_cycles};
 ghost use Rattle.diagnose.specs.Ranking.{IsRanking};
 ghost use Rattle.diagnose.specs.declared.ranks.Ranked.{Ranked as Rank};
-ghost use Rattle.command_line.specs.CommandLine.{AreWithin};
 ghost use Rattle.diagnose_command.specs.Diagnoses.{IsNearest, nearest_line, ranked_line, ranked_lines};
+ghost use Rattle.diagnose_command.specs.inner.Cases.{IsFitted};
 
-use crate::diagnosing::Case;
-use command_line::DiagnoseOptions;
-use command_steps::{core_of, cycles_of, faults_of};
-use diagnose::{Ranked, ranking};
-use fault_collapse::{Classes, collapse};
+use crate::cases::{Listed, ScannedCase, listed_of, test_of};
+use diagnose::{Ranked, ScannedDesign, ranking};
 use fault_universe::{FaultSet, faults_have_signals, push_text};
 use itoa::Buffer;
 use netlist::{Fault, Netlist, NoMemory};
 use outside::Gate;
-use scan_insert::Scanned;
-use scan_insert::laws::scanned_is_sound;
 use std::alloc::{AllocError, Global};
-use stil_vectors::fitting_cycles;
 
 /// The faults that come nearest to the log of a file that fits.
 fn ranked<G: Gate>(
     alloc: Global,
     stage: &G,
-    scanned: &Scanned,
-    faults: &FaultSet,
-    classes: &Classes,
-    case: &Case,
+    scanned: &ScannedCase<'_>,
+    listed: &Listed,
     count: u64,
 ) -> Result<Vec<Ranked>, NoMemory>
-    requires design { IsScannedDesign scanned.now faults.now classes.now }
-    requires fits { FitsNetlist case.now.file scanned.now.netlist }
-    ensures { IfOk result (λ r. IsRanking scanned.now faults.now (told_cycles case.now.log.end (vectors_in case.now.file)) case.now.log.failures count r.items) }
+    requires fitted { IsFitted scanned.now }
+    requires design { IsScannedDesign scanned.now.scanned.now listed.now.faults listed.now.classes }
+    ensures { IfOk result (λ r. IsRanking scanned.now.scanned.now listed.now.faults (told_cycles scanned.now.case.now.log.end (vectors_in scanned.now.case.now.file))
+        scanned.now.case.now.log.failures count r.items) }
 {
-    case.file.sound();
-    fitting_cycles();
-    let core = core_of(alloc, scanned)?;
-    let cycles = cycles_of(alloc, &case.file)?;
-    ranking(
-        alloc, stage, &core, scanned, faults, classes, cycles, &case.log, count,
-    )
+    let (core, cycles) = test_of(alloc, scanned)?;
+    let design = ScannedDesign {
+        core: &core,
+        scanned: scanned.scanned,
+        faults: &listed.faults,
+        classes: &listed.classes,
+    };
+    let found = ranking(alloc, stage, &design, cycles, &scanned.case.log, count)?;
+    Ok(found)
 }
 
 /// Adds a number.
@@ -114,23 +106,18 @@ fn text_of(
 pub(crate) fn nearest<G: Gate>(
     alloc: Global,
     stage: &G,
-    scanned: &Scanned,
-    case: &Case,
-    options: DiagnoseOptions,
+    scanned: &ScannedCase<'_>,
     count: u64,
 ) -> Result<Vec<u8>, NoMemory>
-    requires design { IsDesign case.now.netlist }
-    requires range { AreWithin options }
-    requires scanned { scanned.now ≡ insertion_of case.now.netlist (design_chains case.now.netlist options.chains) }
-    requires fits { FitsNetlist case.now.file scanned.now.netlist }
-    ensures { IfOk result (λ text. IsNearest count case.now.netlist (design_chains case.now.netlist options.chains) (vectors_in case.now.file) case.now.log text.items) }
+    requires { IsFitted scanned.now }
+    ensures { IfOk result (λ text. IsNearest count scanned.now.case.now.netlist (design_chains scanned.now.case.now.netlist scanned.now.chains) (vectors_in scanned.now.case.now.file)
+        scanned.now.case.now.log text.items) }
 {
-    case.netlist.sound();
-    scanned_is_sound();
-    let faults = faults_of(alloc, &case.netlist)?;
-    let classes = collapse(alloc, &case.netlist, &faults)?;
-    let found = ranked(alloc, stage, scanned, &faults, &classes, case, count)?;
-    match text_of(alloc, &case.netlist, &faults, &found) {
+    let netlist = &scanned.case.netlist;
+    netlist.sound();
+    let listed = listed_of(alloc, netlist)?;
+    let found = ranked(alloc, stage, scanned, &listed, count)?;
+    match text_of(alloc, netlist, &listed.faults, &found) {
         Ok(text) => Ok(text),
         Err(_) => Err(NoMemory),
     }

@@ -1,10 +1,10 @@
 -- What is diagnosed: a design, a test, and what failed.
-use Rattle.std.specs.Prelude.{ℕ, ◌≡◌, ⊤, List, [], ◌∷◌, Option, Result, Ok, Err}
+use Rattle.std.specs.Prelude.{ℕ, ◌≡◌, ◌≤◌, ⊤, [], ◌∷◌, Option, Result, Ok, Err}
 use Rattle.statement.specs.Benches.{Text}
 use Rattle.bench_text.specs.declared.refusal.Names.TheVariants.{Design}
 use Rattle.statement.specs.Netlists.{Netlist}
 use Rattle.netlist.specs.Designs.{IsDesign}
-use Rattle.scan_insert.specs.Scanned.{scanned_of}
+use Rattle.scan_insert.specs.Scanned.{insertion_of, scanned_of}
 use Rattle.good_files.specs.ScanOff.{design_chains}
 use Rattle.stil_read.specs.Reading.{StandsFor}
 use Rattle.statement.specs.Tests.{vectors_in}
@@ -18,7 +18,8 @@ use Rattle.commands.specs.declared.product.Stop.{Stop}
 use Rattle.commands.specs.declared.product.Stop.TheVariants as stop
 use Rattle.diagnose_command.specs.Diagnoses.{diagnose_due, IsSaidOf}
 use Rattle.command_steps.specs.Steps.{◌>>=◌, netlist, test, value}
-use Rattle.diagnose_command.specs.declared.diagnosing.Case.{Case}
+use Rattle.diagnose_command.specs.declared.cases.Case.{Case}
+use Rattle.diagnose_command.specs.declared.cases.ScannedCase.{ScannedCase}
 use Rattle.command_steps.specs.declared.refusal.Refusal.{Refusal}
 use Rattle.command_steps.specs.declared.refusal.Refusal.TheVariants.{NotLog, NotStil, StilDoesNotFit}
 
@@ -33,6 +34,17 @@ abbrev pub ReadsCase : ℕ → Option ℕ → Text → Text → Text → Result 
 ReadsCase chains rank net stil log (Ok c) = IsCase net stil log c.netlist c.file c.log
 ReadsCase chains rank net stil log (Err (stop.Refused r)) = diagnose_due chains rank (net ∷ stil ∷ log ∷ []) (Refuse r)
 ReadsCase chains rank net stil log (Err stop.NoMemory) = ⊤
+
+-- its design is scanned, in at most so many chains
+pub record IsScannedCase (c : ScannedCase) : Type 0 where
+  pub design : IsDesign c.case.now.netlist
+  pub some : 1 ≤ c.chains
+  pub is_scanned : c.scanned.now ≡ insertion_of c.case.now.netlist (design_chains c.case.now.netlist c.chains)
+
+-- and its file fits the scanned netlist
+pub record IsFitted (c : ScannedCase) : Type 0 where
+  pub scanned : IsScannedCase c
+  pub fits : FitsNetlist c.case.now.file c.scanned.now.netlist
 
 -- what is due of a design, a file that fits its scanned netlist, and a log
 abbrev pub diagnosis_due : ℕ → Option ℕ → Netlist → StilFile → FailLog → Due Refusal → Type 0

@@ -10,20 +10,28 @@ use Rattle.command_steps.specs.Answers.{Answers}
 use Rattle.command_steps.proofs.StepLemmas.{stopped, then_worked}
 use Rattle.diagnose_command.proofs.diagnosing.fitted.Goals as goal
 
+pub product_of-requires : goal.product_of-requires
+product_of-requires g c κs within = record {
+  scanned = c.requires;
+  fits = subst (λ (m : Netlist). FitsNetlist c.args.scanned.now.case.now.file m) c.netlist.ensures c.in-Ok.ensures;
+}
+
 pub returns-in-Ok : goal.returns-in-Ok
 returns-in-Ok g c =
-    let n = c.args.case.now.netlist in
-    let chains = design_chains n c.args.options.chains in
-    let file = c.args.case.now.file in
-    let is = c.netlist.ensures ∙ ap (λ (s : Insertion). s.netlist) c.requires.scanned in
+    let s = c.args.scanned.now in
+    let n = s.case.now.netlist in
+    let chains = design_chains n s.chains in
+    let file = s.case.now.file in
+    let is = c.netlist.ensures ∙ ap (λ (i : Insertion). i.netlist) c.requires.is_scanned in
     let fits = subst (λ (m : Netlist). FitsNetlist file m) is c.in-Ok.ensures in
-    then_worked (test (FitsNetlist file (scanned_of n chains)) StilDoesNotFit) (λ _. diagnosis_due c.args.options.chains c.args.options.rank n file c.args.case.now.log) 0 tt c.product_of.result fits c.product_of.ensures
+    then_worked (test (FitsNetlist file (scanned_of n chains)) StilDoesNotFit) (λ _. diagnosis_due s.chains c.args.rank n file s.case.now.log) 0 tt c.product_of.result fits c.product_of.ensures
 
 pub returns-in-Err : goal.returns-in-Err
 returns-in-Err g c =
-    let n = c.args.case.now.netlist in
-    let chains = design_chains n c.args.options.chains in
-    let file = c.args.case.now.file in
-    let is = c.netlist.ensures ∙ ap (λ (s : Insertion). s.netlist) c.requires.scanned in
+    let s = c.args.scanned.now in
+    let n = s.case.now.netlist in
+    let chains = design_chains n s.chains in
+    let file = s.case.now.file in
+    let is = c.netlist.ensures ∙ ap (λ (i : Insertion). i.netlist) c.requires.is_scanned in
     let refused : Answers (test (FitsNetlist file (scanned_of n chains)) StilDoesNotFit) (Err c.in-Err.stop) = subst (λ (m : Netlist). Answers (test (FitsNetlist file m) StilDoesNotFit) (Err c.in-Err.stop)) is c.in-Err.ensures in
-    stopped (test (FitsNetlist file (scanned_of n chains)) StilDoesNotFit) (λ _. diagnosis_due c.args.options.chains c.args.options.rank n file c.args.case.now.log) 0 c.in-Err.stop refused
+    stopped (test (FitsNetlist file (scanned_of n chains)) StilDoesNotFit) (λ _. diagnosis_due s.chains c.args.rank n file s.case.now.log) 0 c.in-Err.stop refused

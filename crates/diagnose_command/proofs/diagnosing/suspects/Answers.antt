@@ -1,14 +1,16 @@
-use Rattle.std.proofs.Common.{List, sym, subst}
-use Rattle.std.specs.List.{All}
-use Rattle.statement.specs.Netlists.{Netlist}
+use Rattle.std.proofs.Common.{List, subst}
 use Rattle.statement.specs.Runs.{Cycle}
-use Rattle.scan_play.specs.Cycles.{IsCycleOf}
-use Rattle.statement.specs.Tests.{vectors_in}
+use Rattle.diagnose.specs.Candidates.{AreCandidates}
+use Rattle.diagnose.specs.Explaining.{told_cycles}
 use Rattle.diagnose_command.proofs.diagnosing.suspects.Goals as goal
 
-pub candidates-requires-clause-fits : goal.candidates-requires-clause-fits
-candidates-requires-clause-fits g c κs within =
-    let file = c.args.case.now.file in
-    let fit = c.fitting_cycles.ensures file c.args.scanned.now.netlist c.sound.ensures c.requires.fits in
-    subst (λ (cycles : List Cycle). All (IsCycleOf c.in_ok-core.core) cycles) (sym c.in_ok-cycles.ensures.cycles)
-    (subst (λ (n : Netlist). All (IsCycleOf n) (vectors_in file)) (sym c.in_ok-core.ensures) fit)
+pub candidates-requires : goal.candidates-requires
+candidates-requires g c κs within =
+    let t = c.in_ok-core.ensures in
+    record { design = c.requires.design; core = t.core; fits = t.fits; few = t.few }
+
+pub returns : goal.returns
+returns g c =
+    let s = c.args.scanned.now in
+    let log = s.case.now.log in
+    subst (λ (cycles : List Cycle). AreCandidates s.scanned.now c.args.listed.now.faults (told_cycles log.end cycles) log.failures c.in_ok-found.found.items) c.in_ok-core.ensures.cycles c.in_ok-found.ensures

@@ -15,3 +15,6 @@ returns-in-Err g c =
 
 pub diagnosed-requires-clause-design : goal.diagnosed-requires-clause-design
 diagnosed-requires-clause-design g c κs within = (c.in-Ok.ensures c.args.options.chains c.args.options.rank).design
+
+pub diagnosed-requires-clause-some : goal.diagnosed-requires-clause-some
+diagnosed-requires-clause-some g c κs within = c.requires.range.chains.0

@@ -1,5 +1,5 @@
 use Rattle.diagnose_command.proofs.DiagnoseLemmas.{no_design, no_log, no_test}
-use Rattle.diagnose_command.proofs.diagnosing.case_of.Goals as goal
+use Rattle.diagnose_command.proofs.cases.case_of.Goals as goal
 
 pub returns-in-Err : goal.returns-in-Err
 returns-in-Err c = λ chains rank. no_design chains rank _ _ _ c.in-Err.stop c.in-Err.ensures.step
