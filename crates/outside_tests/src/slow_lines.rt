@@ -1,11 +1,16 @@
 //! Two searches for slow lines run beside each other.
+ghost use Rattle.netlist.specs.Designs.{IsDesign};
+
 use crate::meeting::MeetingEngine;
-use crate::runs::{allocated, core_of, nothing_held};
+use crate::runs::{allocated, core_of};
 use evidence::Found;
+use netlist::{Core, Holds, NoMemory};
 use outside::OpenGate;
 use std::alloc::{AllocError, Global};
 use std::test::Fail;
-use transition::{Trees, search_all};
+use std::thread::Threads;
+use transition::{SearchPlan, Trees, search_all};
+use worker::Errand;
 
 /// A chain of so many inverters.
 fn chain_of(alloc: Global, length: u32) -> Result<String, AllocError> {
@@ -16,24 +21,39 @@ fn chain_of(alloc: Global, length: u32) -> Result<String, AllocError> {
     Ok(text)
 }
 
+/// What two workers find for the slow lines of a core, with no held input.
+fn search<R: Threads + Sync>(
+    rt: &R,
+    alloc: Global,
+    core: &Core,
+    engine: &MeetingEngine,
+) -> Result<Vec<Found>, NoMemory>
+    requires { IsDesign core.now }
+{
+    let holds = Holds::none(alloc, core)?;
+    let errand = Errand {
+        rt,
+        alloc,
+        core,
+        engine,
+        stage: &OpenGate,
+        holds: &holds,
+    };
+    let plan = SearchPlan {
+        limit: 4,
+        trees: Trees::OfFrames,
+        workers: 2,
+    };
+    search_all(&errand, plan)
+}
+
 /// 142 faults are two shares. No line is seen to change, since the input is held between the two captures.
 #[test]
 fn two_searches_for_slow_lines_meet(rt: HostRuntime) -> Result<(), Fail> {
     let alloc = rt.alloc();
-    let core = core_of(alloc, chain_of(alloc, 70)?.as_bytes())?;
-    let holds = nothing_held(alloc, &core)?;
+    let core = allocated(core_of(alloc, chain_of(alloc, 70)?.as_bytes()))?;
     let engine = allocated(MeetingEngine::of(alloc, &core))?;
-    let found = allocated(search_all(
-        &rt,
-        alloc,
-        &OpenGate,
-        core.netlist(),
-        &engine,
-        4,
-        Trees::OfFrames,
-        2,
-        &holds,
-    ))?;
+    let found = allocated(search(&rt, alloc, &core, &engine))?;
     assert!(rt; engine.went_well());
     assert_eq!(rt; found.len(), 142);
     assert!(rt; found.iter().all(|f| matches!(f, Found::Closed(_))));
