@@ -5,11 +5,11 @@
 //! Tested: by `calls`.
 #![tactic(auto)]
 
-mod applied;
 mod certificates;
 mod refutations;
 mod reports;
 mod script;
+mod setups;
 mod stil_files;
 mod vectors;
 mod wrong;

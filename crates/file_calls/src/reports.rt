@@ -1,5 +1,5 @@
 //! Reports, read and written again.
-use case_text::{changed, show};
+use case_text::{Pushed, Said, changed, show};
 use report::{ReportFault, read_report, write_report};
 use std::alloc::{AllocError, Global};
 
@@ -17,24 +17,21 @@ fn written(alloc: Global, text: &[u8]) -> Result<Option<Vec<u8>>, AllocError> {
 }
 
 /// `report TEXT`: the text of the report that was read.
-pub fn push_report(to: &mut Vec<u8>, alloc: Global, text: &[u8]) -> Result<(), AllocError> {
-    match written(alloc, text)? {
+pub fn push_report(to: &mut Said, text: &[u8]) -> Pushed {
+    match written(to.alloc, text)? {
         Some(text) => show(to, &text),
-        None => to.extend_from_slice(b"NotReport\n"),
+        None => to.push("NotReport\n"),
     }
+    Ok(())
 }
 
 /// `report-with TEXT OLD|NEW`: whether the text with this change is read, and is written as it was given.
-pub fn push_changed(
-    to: &mut Vec<u8>,
-    alloc: Global,
-    text: &[u8],
-    rest: &str,
-) -> Result<(), AllocError> {
-    let given = changed(alloc, text, rest)?;
-    match written(alloc, &given)? {
-        Some(text) if text.as_slice() == given.as_slice() => to.extend_from_slice(b"as given\n"),
+pub fn push_changed(to: &mut Said, text: &[u8], change: &str) -> Pushed {
+    let given = changed(to.alloc, text, change)?;
+    match written(to.alloc, &given)? {
+        Some(text) if text.as_slice() == given.as_slice() => to.push("as given\n"),
         Some(text) => show(to, &text),
-        None => to.extend_from_slice(b"NotReport\n"),
+        None => to.push("NotReport\n"),
     }
+    Ok(())
 }

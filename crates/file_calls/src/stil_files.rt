@@ -1,170 +1,146 @@
-//! STIL files and vectors of patterns.
-ghost use Rattle.std.specs.Prelude.{◌<◌};
+//! STIL files of patterns, and what is read of them.
 ghost use Rattle.netlist.specs.Designs.{IsDesign};
-ghost use Rattle.netlist.specs.Holds.{AreHoldsOf};
-ghost use Rattle.scan_insert.specs.Scanned.{AreChainsOf};
 
+use crate::setups::{Setup, set_up};
 use crate::vectors::push_vectors;
-use case_nets::{chains_of, holds_of, patterns_of as patterns_named, push_pattern};
-use case_text::{cut, cut_at, show, small};
+use case_nets::{all_drawn, patterns_of as patterns_named};
+use case_text::{Args, Pushed, Said, cut, cut_at, number, push_checksum, show, small};
 use cubes::Pattern;
-use netlist::{Core, Holds};
-use scan_insert::Chains;
+use netlist::Core;
+use rand_pcg::Pcg32;
 use std::alloc::{AllocError, Global};
-use stil_patterns::{are_patterns, patterns_of, stil_of};
+use stil_patterns::{applied_patterns, are_patterns, patterns_of, stil_of};
 use stil_read::{StilFault, read_stil};
-use stil_write::write_stil;
+use stil_write::{StilFile, write_stil};
 
 /// Adds patterns, a blank before each.
-pub fn push_patterns(to: &mut Vec<u8>, patterns: &[Pattern]) -> Result<(), AllocError> {
-    to.extend_from_slice(b"patterns")?;
+fn push_patterns(to: &mut Said, patterns: &[Pattern]) {
+    to.push("patterns");
     for pattern in patterns {
-        to.push(b' ')?;
-        push_pattern(to, pattern)?;
+        to.push(" ");
+        to.push_bits(pattern.inputs());
+        to.push("/");
+        to.push_bits(pattern.cells());
     }
-    to.extend_from_slice(b"\n")
+    to.push("\n");
 }
 
-fn push_read(
-    to: &mut Vec<u8>,
-    alloc: Global,
-    core: &Core,
-    chains: &Chains,
-    holds: &Holds,
-    text: &[u8],
-) -> Result<(), AllocError>
-    requires design { IsDesign core.now }
-    requires chains { AreChainsOf core.now chains.now }
-    requires holds { AreHoldsOf core.now holds.now }
-{
-    let file = match read_stil(alloc, text) {
-        Ok(file) => file,
-        Err(StilFault::NotStil) => return to.extend_from_slice(b"not stil\n"),
-        Err(StilFault::NoMemory) => return Err(AllocError),
-    };
-    match patterns_of(alloc, core, chains, &file, holds) {
+/// Adds the patterns of which the text is the file.
+fn push_exact(to: &mut Said, setup: &Setup<'_>, file: &StilFile) -> Pushed {
+    match patterns_of(to.alloc, setup.core, &setup.chains, file, &setup.holds) {
         Ok(Some(patterns)) => push_patterns(to, &patterns),
-        Ok(None) => to.extend_from_slice(b"no patterns\n"),
-        Err(_) => Err(AllocError),
+        Ok(None) => to.push("no patterns\n"),
+        Err(_) => return Err(AllocError),
+    }
+    Ok(())
+}
+
+/// Adds the patterns that a file applies, whatever it strobes.
+fn push_found(to: &mut Said, setup: &Setup<'_>, file: &StilFile) -> Pushed {
+    let netlist = setup.core.netlist();
+    match applied_patterns(to.alloc, netlist, &setup.chains, &setup.holds, file) {
+        Ok(patterns) => push_patterns(to, &patterns),
+        Err(_) => return Err(AllocError),
+    }
+    Ok(())
+}
+
+/// Adds the patterns of a text: those of which it is the file, or those that it applies.
+fn push_read(to: &mut Said, setup: &Setup<'_>, text: &[u8], is_exact: bool) -> Pushed {
+    match read_stil(to.alloc, text) {
+        Ok(file) => {
+            if is_exact {
+                push_exact(to, setup, &file)
+            } else {
+                push_found(to, setup, &file)
+            }
+        }
+        Err(StilFault::NotStil) => {
+            to.push("not stil\n");
+            Ok(())
+        }
+        Err(StilFault::NoMemory) => Err(AllocError),
     }
 }
 
-/// The text of the patterns' file; nothing where they aren't patterns that obey.
-fn text_of(
-    alloc: Global,
-    core: &Core,
-    chains: &Chains,
-    holds: &Holds,
-    patterns: &[Pattern],
-) -> Result<Option<Vec<u8>>, AllocError>
-    requires design { IsDesign core.now }
-    requires chains { AreChainsOf core.now chains.now }
-    requires holds { AreHoldsOf core.now holds.now }
+/// `applied STIL CHAINS HELD`: the patterns of the netlist that the file applies.
+pub fn push_applied(to: &mut Said, core: &Core, args: &Args<'_>, text: &[u8]) -> Pushed
+    requires { IsDesign core.now }
 {
-    if !are_patterns(core.netlist(), holds, patterns) {
-        return Ok(None);
-    }
-    let Ok(file) = stil_of(alloc, core, chains, patterns, holds) else {
-        return Err(AllocError);
-    };
-    let text = write_stil(alloc, &file)?;
-    Ok(Some(text))
+    let setup = set_up(to.alloc, core, args.second, args.last)?;
+    push_read(to, &setup, text, false)
 }
 
 /// A text with another word where a word stands last.
 fn with_other(alloc: Global, text: &[u8], old: &str, new: &str) -> Result<Vec<u8>, AllocError> {
     let whole = str::from_utf8(text).unwrap_or("");
     let (before, behind) = whole.rsplit_once(old).unwrap_or((whole, ""));
-    let mut other = Vec::new(alloc);
-    other.extend_from_slice(before.as_bytes())?;
-    other.extend_from_slice(new.as_bytes())?;
-    other.extend_from_slice(behind.as_bytes())?;
-    Ok(other)
+    let mut other = Said::new(alloc);
+    other.push(before);
+    other.push(new);
+    other.push(behind);
+    other.end()
 }
 
-/// Adds the file of patterns and what is read of it, or what is read of it once a word is another.
-pub fn push_file(
-    to: &mut Vec<u8>,
-    alloc: Global,
-    core: &Core,
-    chains: &Chains,
-    holds: &Holds,
+/// Adds the file and what is read of it, or what is read of it once a word is another.
+fn push_written(
+    to: &mut Said,
+    setup: &Setup<'_>,
+    file: &StilFile,
+    other: Option<(&str, &str)>,
+) -> Pushed {
+    let text = write_stil(to.alloc, file)?;
+    let Some((old, new)) = other else {
+        show(to, &text);
+        return push_read(to, setup, &text, true);
+    };
+    let text = with_other(to.alloc, &text, old, new)?;
+    push_read(to, setup, &text, true)
+}
+
+/// The same of the file of patterns, if they are patterns that obey.
+fn push_file(
+    to: &mut Said,
+    setup: &Setup<'_>,
     patterns: &[Pattern],
     other: Option<(&str, &str)>,
-) -> Result<(), AllocError>
-    requires design { IsDesign core.now }
-    requires chains { AreChainsOf core.now chains.now }
-    requires holds { AreHoldsOf core.now holds.now }
-{
-    let Some(text) = text_of(alloc, core, chains, holds, patterns)? else {
-        return to.extend_from_slice(b"no patterns that obey\n");
-    };
-    let Some((old, new)) = other else {
-        show(to, &text)?;
-        return push_read(to, alloc, core, chains, holds, &text);
-    };
-    let text = with_other(alloc, &text, old, new)?;
-    push_read(to, alloc, core, chains, holds, &text)
-}
-
-/// What is to be shown of patterns.
-#[derive(Clone, Copy)]
-enum Wanted<'a> {
-    /// What the tester drives and strobes, cycle by cycle.
-    Vectors,
-    /// The file, and what is read of it.
-    File,
-    /// What is read of it once a word is another.
-    FileBut(&'a str, &'a str),
-}
-
-/// Adds this of the patterns of a text, with so many chains.
-fn push_named(
-    to: &mut Vec<u8>,
-    alloc: Global,
-    core: &Core,
-    holds: &Holds,
-    asked: u32,
-    texts: &str,
-    wanted: Wanted<'_>,
-) -> Result<(), AllocError>
-    requires some { 0 < asked }
-    requires design { IsDesign core.now }
-    requires holds { AreHoldsOf core.now holds.now }
-{
-    let chains = chains_of(alloc, core.netlist(), asked)?;
-    let patterns = patterns_named(alloc, core, texts)?;
-    match wanted {
-        Wanted::Vectors => push_vectors(to, alloc, core, &chains, holds, &patterns),
-        Wanted::File => push_file(to, alloc, core, &chains, holds, &patterns, None),
-        Wanted::FileBut(old, new) => {
-            push_file(to, alloc, core, &chains, holds, &patterns, Some((old, new)))
-        }
+) -> Pushed {
+    if !are_patterns(setup.core.netlist(), &setup.holds, patterns) {
+        to.push("no patterns that obey\n");
+        return Ok(());
     }
+    match stil_of(to.alloc, setup.core, &setup.chains, patterns, &setup.holds) {
+        Ok(file) => push_written(to, setup, &file, other),
+        Err(_) => Err(AllocError),
+    }
+}
+
+/// `drawn-stil CHAINS SEED COUNT`: the checksum of the file of so many drawn patterns and of what is read of it.
+pub fn push_drawn_file(to: &mut Said, core: &Core, args: &Args<'_>) -> Pushed
+    requires { IsDesign core.now }
+{
+    let mut random = Pcg32::new(number(args.second), 54);
+    let patterns = all_drawn(to.alloc, core, small(args.last), &mut random)?;
+    let setup = set_up(to.alloc, core, args.first, "-")?;
+    let mut said = Said::new(to.alloc);
+    push_file(&mut said, &setup, &patterns, None)?;
+    push_checksum(to, "", &said.end()?);
+    Ok(())
 }
 
 /// `vectors CHAINS HELD: PATTERNS`: the vectors of patterns.
 /// `stil CHAINS HELD: PATTERNS`: the file of patterns, and of which patterns its text is read as the file.
 /// `stil-but CHAINS HELD OLD NEW: PATTERNS`: of which patterns the text is read as the file once a word is another where it stands last.
-pub fn push_stil(
-    to: &mut Vec<u8>,
-    alloc: Global,
-    core: &Core,
-    verb: &str,
-    rest: &str,
-) -> Result<(), AllocError>
+pub fn push_stil(to: &mut Said, core: &Core, verb: &str, text: &str) -> Pushed
     requires { IsDesign core.now }
 {
-    let (head, texts) = cut_at(rest, ": ");
-    let (asked, head) = cut(head);
-    let (held, words) = cut(head);
-    let holds = holds_of(alloc, core, held)?;
-    let asked = small(asked).max(1);
-    let (old, new) = cut(words);
-    let wanted = match verb {
-        "vectors" => Wanted::Vectors,
-        "stil" => Wanted::File,
-        _ => Wanted::FileBut(old, new),
-    };
-    push_named(to, alloc, core, &holds, asked, texts, wanted)
+    let (head, texts) = cut_at(text, ": ");
+    let args = Args::of(head);
+    let setup = set_up(to.alloc, core, args.first, args.second)?;
+    let patterns = patterns_named(to.alloc, core, texts)?;
+    match verb {
+        "vectors" => push_vectors(to, &setup, &patterns),
+        "stil" => push_file(to, &setup, &patterns, None),
+        _ => push_file(to, &setup, &patterns, Some(cut(args.last))),
+    }
 }

@@ -2,7 +2,7 @@
 ghost use Rattle.stil_vectors.specs.Fitting.{FitsNetlist};
 
 use case_nets::name_of;
-use case_text::push_number;
+use case_text::{Pushed, Said};
 use chain_test::first_wrong;
 use fault_universe::fault_named;
 use netlist::{Core, Fault, Netlist, NoMemory};
@@ -30,61 +30,46 @@ fn told_of(
     first_wrong(alloc, core, fault, &vectors)
 }
 
-/// The name of an output; `?` where there is none.
-fn output_name(netlist: &Netlist, output: u32) -> &[u8] {
-    match netlist.outputs().get(output as usize) {
-        Some(id) => name_of(netlist, *id),
-        None => b"?",
-    }
-}
-
-fn push_told(
-    to: &mut Vec<u8>,
-    netlist: &Netlist,
-    told: Option<(u64, u32)>,
-) -> Result<(), AllocError> {
+/// Adds the cycle and the output, by its name.
+fn push_told(to: &mut Said, netlist: &Netlist, told: Option<(u64, u32)>) {
     let Some((cycle, output)) = told else {
-        return to.extend_from_slice(b"untold\n");
+        return to.push("untold\n");
     };
-    to.extend_from_slice(b"fails ")?;
-    push_number(to, cycle.min(1_000_000) as u32)?;
-    to.extend_from_slice(b" ")?;
-    to.extend_from_slice(output_name(netlist, output))?;
-    to.extend_from_slice(b"\n")
+    to.push("fails ");
+    to.push_number(cycle.min(1_000_000));
+    to.push(" ");
+    match netlist.outputs().get(output as usize) {
+        Some(id) => to.push_bytes(name_of(netlist, *id)),
+        None => to.push("?"),
+    }
+    to.push("\n");
 }
 
-fn push_fitting(
-    to: &mut Vec<u8>,
-    alloc: Global,
-    core: &Core,
-    fault: Fault,
-    file: &StilFile,
-) -> Result<(), AllocError> {
-    match fits(alloc, file, core.netlist()) {
-        Ok(true) => match told_of(alloc, core, fault, file) {
+fn push_fitting(to: &mut Said, core: &Core, fault: Fault, file: &StilFile) -> Pushed {
+    match fits(to.alloc, file, core.netlist()) {
+        Ok(true) => match told_of(to.alloc, core, fault, file) {
             Ok(told) => push_told(to, core.netlist(), told),
-            Err(_) => Err(AllocError),
+            Err(_) => return Err(AllocError),
         },
-        Ok(false) => to.extend_from_slice(b"does not fit\n"),
-        Err(_) => Err(AllocError),
+        Ok(false) => to.push("does not fit\n"),
+        Err(_) => return Err(AllocError),
     }
+    Ok(())
 }
 
 /// `first-wrong NET STIL FAULT`: the first strobe of the file that is known to be wrong where the netlist, with scan or without, has this fault.
-pub fn push_wrong(
-    to: &mut Vec<u8>,
-    alloc: Global,
-    core: &Core,
-    stil: &[u8],
-    fault: &str,
-) -> Result<(), AllocError> {
+pub fn push_wrong(to: &mut Said, core: &Core, stil: &[u8], fault: &str) -> Pushed {
     core.netlist().sound();
     let Some(fault) = fault_named(core.netlist(), fault.as_bytes()) else {
-        return to.extend_from_slice(b"no fault\n");
+        to.push("no fault\n");
+        return Ok(());
     };
-    match read_stil(alloc, stil) {
-        Ok(file) => push_fitting(to, alloc, core, fault, &file),
-        Err(StilFault::NotStil) => to.extend_from_slice(b"not stil\n"),
+    match read_stil(to.alloc, stil) {
+        Ok(file) => push_fitting(to, core, fault, &file),
+        Err(StilFault::NotStil) => {
+            to.push("not stil\n");
+            Ok(())
+        }
         Err(StilFault::NoMemory) => Err(AllocError),
     }
 }
