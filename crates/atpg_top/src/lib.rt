@@ -57,7 +57,7 @@ use std::alloc::Global;
 use std::sync::Wait;
 use std::thread::Threads;
 use sweeping::sweep_sample;
-use test_commands::{GradeNames, grade_test, play_test, test_chains};
+use test_commands::{grade_test, play_test, test_chains};
 
 /// Does what was asked.
 fn perform<'a, R: Threads + Wait + Sync, S: Shelf, T: Sink, G: Gate + Sync>(
@@ -137,14 +137,7 @@ fn perform<'a, R: Threads + Wait + Sync, S: Shelf, T: Sink, G: Gate + Sync>(
             stil,
             prefix,
             chains,
-        } => grade_test(
-            alloc,
-            shelf,
-            out,
-            stage,
-            GradeNames { net, stil, prefix },
-            *chains,
-        ),
+        } => grade_test(alloc, shelf, out, stage, net, stil, prefix, *chains),
     }
 }
 

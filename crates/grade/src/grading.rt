@@ -2,13 +2,12 @@
 //!
 //! A play ends once each line of the batch met a strobe that isn't known and equal. That tells of all lines but of those at which X was shown there: for
 //! their sake the batch is played again, by a judge who passes over what isn't known.
-ghost use Rattle.std.specs.Prelude.{◌≡◌, ◌^◌, ◌<◌, IfOk, length, map};
+ghost use Rattle.std.specs.Prelude.{◌≡◌, ◌^◌, ◌<◌, ◌≤◌, IfOk, drop, length, map, take};
 ghost use Rattle.std.specs.List.{All, AllZip, list_any, zip};
 ghost use Rattle.scan_play.specs.Cycles.{IsCycleOf};
 ghost use Rattle.grade.specs.Grades.{IsGraded};
 ghost use Rattle.grade.specs.inner.Told.{grade_of, grade_told, is_open};
 
-use crate::batches::batch_at;
 use crate::grade::Grade;
 use chain_test::first_wrongs;
 use lane_play::play_lanes;
@@ -16,9 +15,6 @@ use netlist::{Core, Fault, NoMemory};
 use outside::{Gate, OpenGate, Stage};
 use scan_play::{Played, Strict, Vectors};
 use std::alloc::{AllocError, Global};
-
-/// So many lines are graded before others are packed together.
-const BATCH: usize = 512;
 
 /// The grade where this was said of the first strobe that isn't met, and that is the first place that is known to be wrong.
 fn grade_of(unmet: Option<Played>, wrong: Option<(u64, u32)>) -> Grade
@@ -102,6 +98,17 @@ fn batch_grades(
     Ok(grades)
 }
 
+/// The next 512 lines, or as many as there are.
+fn batch_at(lines: &[Fault], start: usize) -> &[Fault]
+    requires { start ≤ length lines.now }
+    ensures batch { result.now ≡ take 512 (drop start lines.now) }
+    ensures few { length result.now ≤ 512 }
+{
+    let left = lines.len() - start;
+    let count = if left < 512 { left } else { 512 };
+    &lines[start..start + count]
+}
+
 /// What is passed before these lines are graded.
 pub(crate) fn begun(lines: &[Fault]) -> Stage {
     Stage::Begun {
@@ -135,8 +142,8 @@ pub(crate) fn line_grades<G: Gate>(
 {
     stage.at(0, begun(lines));
     let mut all = Vec::with_capacity(alloc, lines.len())?;
-    for batch in 0..lines.len().div_ceil(BATCH) {
-        let own = batch_at(lines, batch * BATCH, BATCH);
+    for batch in 0..lines.len().div_ceil(512) {
+        let own = batch_at(lines, batch * 512);
         let grades = batch_grades(alloc, core, own, vectors)?;
         all.extend_from_slice(&grades)?;
         stage.at(0, answered(&grades));

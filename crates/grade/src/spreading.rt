@@ -7,7 +7,7 @@ ghost use Rattle.chain_test.specs.Hardware.{at_site};
 ghost use Rattle.statement.specs.Tests.{vectors_in};
 ghost use Rattle.stil_vectors.specs.Fitting.{FitsNetlist};
 ghost use Rattle.grade.specs.Grades.{AreGrades};
-ghost use Rattle.grade.specs.Patterns.{IsGradedDesign};
+ghost use Rattle.grade.specs.Patterns.{IsDesignScanned};
 ghost use Rattle.grade.specs.inner.ByPatterns.{AreTestCycles};
 ghost use Rattle.grade.specs.inner.Spread.{AreSiteGrades, grade_at};
 
@@ -27,16 +27,6 @@ use scan_play::Vectors;
 use std::alloc::{AllocError, Global};
 use stil_vectors::{cycle_count, fitting_cycles, vectors};
 use stil_write::StilFile;
-
-/// A design that is graded: its chains, what insertion makes of them, its faults, and their classes.
-#[derive(Clone, Copy)]
-pub struct GradedDesign<'a> {
-    pub core: &'a Core,
-    pub chains: &'a Chains,
-    pub scanned: &'a Scanned,
-    pub faults: &'a FaultSet,
-    pub classes: &'a Classes,
-}
 
 /// A fault of the design at its site.
 fn at_site(scanned: &Scanned, fault: Fault) -> Fault
@@ -86,20 +76,24 @@ fn spread(
 fn grades_by_patterns<G: Gate>(
     alloc: Global,
     stage: &G,
-    design: &GradedDesign<'_>,
+    design: &Core,
+    chains: &Chains,
+    scanned: &Scanned,
+    faults: &FaultSet,
+    classes: &Classes,
     file: &StilFile,
     patterns: Vec<Pattern>,
 ) -> Result<Vec<Grade>, NoMemory>
-    requires design { IsGradedDesign design.now }
-    requires test { AreTestCycles design.now.core.now design.now.chains.now (vectors_in file.now) patterns.items }
-    ensures { IfOk result (λ grades. AreSiteGrades design.now.scanned.now (vectors_in file.now) design.now.classes.now.representatives grades.items) }
+    requires design { IsDesignScanned design.now chains.now scanned.now faults.now classes.now }
+    requires test { AreTestCycles design.now chains.now (vectors_in file.now) patterns.items }
+    ensures { IfOk result (λ grades. AreSiteGrades scanned.now (vectors_in file.now) classes.now.representatives grades.items) }
 {
-    design.core.netlist().sound();
+    design.netlist().sound();
     faults_have_lines();
     patterns_grade();
-    let representatives = design.classes.representatives();
+    let representatives = classes.representatives();
     stage.at(0, begun(representatives));
-    let grades = pattern_grades(alloc, design.core, design.chains, patterns, representatives)?;
+    let grades = pattern_grades(alloc, design, chains, patterns, representatives)?;
     stage.at(0, answered(&grades));
     Ok(grades)
 }
@@ -128,18 +122,18 @@ fn grades_by_play<G: Gate>(
     alloc: Global,
     stage: &G,
     scanned: &Scanned,
-    representatives: &[Fault],
+    classes: &Classes,
     file: &StilFile,
 ) -> Result<Vec<Grade>, NoMemory>
-    requires signals { All (λ (f : Stuck). signal_of f.line < length scanned.now.sites) representatives.now }
+    requires signals { All (λ (f : Stuck). signal_of f.line < length scanned.now.sites) classes.now.representatives }
     requires fits { FitsNetlist file.now scanned.now.netlist }
-    ensures { IfOk result (λ grades. AreSiteGrades scanned.now (vectors_in file.now) representatives.now grades.items) }
+    ensures { IfOk result (λ grades. AreSiteGrades scanned.now (vectors_in file.now) classes.now.representatives grades.items) }
 {
     file.sound();
     fitting_cycles();
     let core = core_of(alloc, scanned)?;
     let cycles = cycles_of(alloc, file)?;
-    let sites = sites_of(alloc, scanned, representatives)?;
+    let sites = sites_of(alloc, scanned, classes.representatives())?;
     line_grades(alloc, stage, &core, &sites, &cycles)
 }
 
@@ -147,24 +141,24 @@ fn grades_by_play<G: Gate>(
 fn class_grades<G: Gate>(
     alloc: Global,
     stage: &G,
-    design: &GradedDesign<'_>,
+    design: &Core,
+    chains: &Chains,
+    scanned: &Scanned,
+    faults: &FaultSet,
+    classes: &Classes,
     file: &StilFile,
 ) -> Result<Vec<Grade>, NoMemory>
-    requires design { IsGradedDesign design.now }
-    requires fits { FitsNetlist file.now design.now.scanned.now.netlist }
-    ensures { IfOk result (λ grades. AreSiteGrades design.now.scanned.now (vectors_in file.now) design.now.classes.now.representatives grades.items) }
+    requires design { IsDesignScanned design.now chains.now scanned.now faults.now classes.now }
+    requires fits { FitsNetlist file.now scanned.now.netlist }
+    ensures { IfOk result (λ grades. AreSiteGrades scanned.now (vectors_in file.now) classes.now.representatives grades.items) }
 {
-    design.core.netlist().sound();
+    design.netlist().sound();
     faults_have_signals();
-    match test_patterns(alloc, design.core, design.chains, file)? {
-        Some(patterns) => grades_by_patterns(alloc, stage, design, file, patterns),
-        None => grades_by_play(
-            alloc,
-            stage,
-            design.scanned,
-            design.classes.representatives(),
-            file,
+    match test_patterns(alloc, design, chains, file)? {
+        Some(patterns) => grades_by_patterns(
+            alloc, stage, design, chains, scanned, faults, classes, file, patterns,
         ),
+        None => grades_by_play(alloc, stage, scanned, classes, file),
     }
 }
 
@@ -172,18 +166,22 @@ fn class_grades<G: Gate>(
 pub fn grades<G: Gate>(
     alloc: Global,
     stage: &G,
-    design: &GradedDesign<'_>,
+    design: &Core,
+    chains: &Chains,
+    scanned: &Scanned,
+    faults: &FaultSet,
+    classes: &Classes,
     file: &StilFile,
 ) -> Result<Vec<Grade>, NoMemory>
-    requires design { IsGradedDesign design.now }
-    requires fits { FitsNetlist file.now design.now.scanned.now.netlist }
-    ensures { IfOk result (λ grades. AreGrades design.now.scanned.now design.now.faults.now (vectors_in file.now) grades.items) }
+    requires design { IsDesignScanned design.now chains.now scanned.now faults.now classes.now }
+    requires fits { FitsNetlist file.now scanned.now.netlist }
+    ensures { IfOk result (λ grades. AreGrades scanned.now faults.now (vectors_in file.now) grades.items) }
 {
-    design.core.netlist().sound();
-    design.scanned.netlist().sound();
+    design.netlist().sound();
+    scanned.netlist().sound();
     faults_have_lines();
     equivalent_runs();
-    let by_class = class_grades(alloc, stage, design, file)?;
-    let grades = spread(alloc, design.faults.len(), design.classes, &by_class)?;
+    let by_class = class_grades(alloc, stage, design, chains, scanned, faults, classes, file)?;
+    let grades = spread(alloc, faults.len(), classes, &by_class)?;
     Ok(grades)
 }

@@ -1,22 +1,23 @@
-use Rattle.std.proofs.Common.{◌∙◌, List, Option, ℕ, length, reverse, ap, subst, sym, arith}
-use Rattle.std.specs.List.{All, AllZip}
-use Rattle.std.proofs.lemmas.List.{length-reverse, reverse-reverse}
+use Rattle.std.proofs.Common.{◌∙◌, List, Option, ℕ, length, reverse, ap, subst, sym}
+use Rattle.std.specs.List.{AllZip}
+use Rattle.std.proofs.lemmas.List.{reverse-reverse}
 use Rattle.statement.specs.declared.lines.Point.{Point}
 use Rattle.statement.specs.Patterns.{Pattern}
-use Rattle.word_sim.specs.Hits.{LastDetected}
+use Rattle.netlist.specs.Conditions.{IsSound}
 use Rattle.grade.specs.Patterns.{IsPatternGrade}
+use Rattle.grade.specs.inner.ByPatterns.{AreGradedUpTo}
+use Rattle.grade.proofs.Graded.{all_graded}
 use Rattle.grade.proofs.by_patterns.pattern_grades.Goals as goal
-
-pub grade_all-grades-requires-clause-told : goal.grade_all-grades-requires-clause-told
-grade_all-grades-requires-clause-told c =
-    subst (λ (told : List (Option (ℕ × Point))). AllZip (LastDetected c.args.core.now c.as_slice-latest.result.now) c.args.faults.now told) (sym c.as_slice.ensures.value) c.in_ok-told.ensures
 
 pub returns : goal.returns
 returns c =
     let n = c.args.core.now in
-    let patterns = c.args.patterns.items in
+    let chains = c.args.chains.now in
+    let latest = c.deref.result.now in
     let faults = c.args.faults.now in
     let grades = c.in_ok-grades.grades.items in
-    let same = ap reverse (c.as_slice-latest.ensures.value ∙ c.reverse.ensures.items) ∙ reverse-reverse patterns in
-    subst (λ (ps : List Pattern). AllZip (IsPatternGrade n c.args.chains.now ps) faults grades) same
-    (subst (λ (cs : List (List ℕ)). AllZip (IsPatternGrade n cs (reverse c.as_slice-latest.result.now)) faults grades) c.in_ok-timing.ensures.chains c.in_ok-grades.ensures)
+    let sound = subst IsSound c.netlist.ensures c.sound.ensures in
+    let graded = subst (λ (told : List (Option (ℕ × Point))). AreGradedUpTo n chains latest (length latest) faults told grades) c.deref-4.ensures.value
+    (subst (λ (ps : List Pattern). AreGradedUpTo n chains ps (length ps) faults c.deref-4.result.now grades) (c.deref-3.ensures.value ∙ sym c.deref.ensures.value) c.in_ok-grades.ensures) in
+    subst (λ (ps : List Pattern). AllZip (IsPatternGrade n chains ps) faults grades) (ap reverse (c.deref.ensures.value ∙ c.reverse.ensures.items) ∙ reverse-reverse c.args.patterns.items)
+    (all_graded n chains latest faults c.in_ok-told.told.items sound c.requires.chains grades c.in_ok-told.ensures graded)
