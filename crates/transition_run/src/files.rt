@@ -272,9 +272,9 @@ fn search_rest<R: Threads + Sync, E: Engine + Sync, G: Gate + Sync>(
 
 /// Tests of these faults: two rounds of searches, of which the second is over what the patterns of the first leave, and of all patterns those that are
 /// needed.
-fn slow_tests<'a, R: Threads + Sync, E: Engine + Sync, G: Gate + Sync>(
-    errand: &Errand<'a, E, G, R>,
-    faults: &'a FaultSet,
+fn slow_tests<R: Threads + Sync, E: Engine + Sync, G: Gate + Sync>(
+    errand: &Errand<'_, E, G, R>,
+    faults: &FaultSet,
     plan: TransitionPlan,
 ) -> Result<Tests, NoMemory>
     requires lines { AreSlowLines errand.now.core.now errand.now.holds.now faults.now }
