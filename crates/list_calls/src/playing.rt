@@ -1,5 +1,5 @@
 //! Calls of a new list, alone or behind its lock.
-ghost use Rattle.std.specs.Prelude.{◌≡◌, ◌<◌, ◌≤◌, true, IfOk};
+ghost use Rattle.std.specs.Prelude.{false, ◌≡◌, ◌<◌, ◌≤◌, true, IfOk};
 ghost use Rattle.std.specs.List.{All};
 ghost use Rattle.statement.specs.declared.lines.Fault.{Fault as FaultOf};
 ghost use Rattle.netlist.specs.Designs.{IsDesign};
@@ -93,7 +93,7 @@ fn play_locked<J: About, R: Wait>(
     plan: &Plan<'_>,
     workers: u32,
 ) -> Result<(), AllocError>
-    requires subject { J.subject ≡ plan.now }
+    requires subject { J.subject ≡ record plan.now { refutes = false } }
     requires workers { (0 < workers) × (workers ≤ most_workers) }
 {
     let topic = topic_of::<J>(plan, false);
