@@ -16,6 +16,7 @@ use Rattle.scan_insert.specs.Scanned.{AreChainsOf, Insertion, insertion_of}
 use Rattle.good_files.specs.ScanOff.{design_chains}
 use Rattle.statement.specs.Runs.{Cycle}
 use Rattle.stil_read.specs.Reading.{StandsFor}
+use Rattle.stil_vectors.specs.Fitting.{FitsNetlist}
 use Rattle.statement.specs.Stils.{StilFile}
 use Rattle.diagnose.specs.Failures.{Failing}
 use Rattle.diagnose.specs.Reading.{IsLogOf}
@@ -33,7 +34,7 @@ use Rattle.diagnose_command.specs.declared.cases.ScannedCase.{ScannedCase}
 use Rattle.command_steps.specs.declared.refusal.Refusal.{Refusal}
 use Rattle.command_steps.specs.declared.refusal.Refusal.TheVariants.{NotLog, NotStil}
 use Rattle.command_steps.specs.Answers.{Answers}
-use Rattle.diagnose_command.specs.inner.Cases.{IsCase, IsScannedCase, ReadsCase, case_due, log_due, test_due}
+use Rattle.diagnose_command.specs.inner.Cases.{IsCase, IsFitted, IsScannedCase, ReadsCase, case_due, log_due, test_due}
 use Rattle.command_steps.proofs.StepLemmas.{then_worked}
 
 -- ---- what is read
@@ -121,3 +122,7 @@ places_within n chains cycles log found are k d l =
     let i = get_or found k d in
     let candidate = (are.exactly i).0 (contains_at found k i (slice_get-get_or found k d l)) in
     slice_get_below (universe_of n) i candidate.fault candidate.is_fault
+
+-- a scanned case whose file fits the scanned netlist, however that is lent
+pub fitted_by : (c : ScannedCase) → IsScannedCase c → (m : Netlist) → m ≡ c.scanned.now.netlist → FitsNetlist c.case.now.file m → IsFitted c
+fitted_by c scanned m is fits = record { scanned = scanned; fits = subst (λ (n : Netlist). FitsNetlist c.case.now.file n) is fits }

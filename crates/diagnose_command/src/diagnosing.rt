@@ -146,7 +146,7 @@ fn product_of<R: Threads + Sync, G: Gate + Sync>(
     scanned: &ScannedCase<'_>,
     rank: Option<u64>,
 ) -> Result<Product, Stop<Refusal>>
-    requires { IsFitted scanned.now }
+    requires fitted { IsFitted scanned.now }
     ensures { IsWorked (diagnosis_due scanned.now.chains rank scanned.now.case.now.netlist scanned.now.case.now.file scanned.now.case.now.log) 0 result }
 {
     match said_of(search, scanned, rank) {
@@ -160,12 +160,13 @@ fn product_of<R: Threads + Sync, G: Gate + Sync>(
 }
 
 /// Diagnoses a case, if its file fits the scanned design.
+#[tactic(auto, using(crate::proofs::DiagnoseLemmas::fitted_by))]
 fn fitted<R: Threads + Sync, G: Gate + Sync>(
     search: &Search<'_, R, G>,
     scanned: &ScannedCase<'_>,
     rank: Option<u64>,
 ) -> Result<Product, Stop<Refusal>>
-    requires { IsScannedCase scanned.now }
+    requires scanned { IsScannedCase scanned.now }
     ensures { IsWorked (case_due scanned.now.chains rank scanned.now.case.now.netlist scanned.now.case.now.file scanned.now.case.now.log) 0 result }
 {
     match fitting(search.alloc, &scanned.case.file, scanned.scanned.netlist()) {

@@ -10,12 +10,6 @@ use Rattle.command_steps.specs.Answers.{Answers}
 use Rattle.command_steps.proofs.StepLemmas.{stopped, then_worked}
 use Rattle.diagnose_command.proofs.diagnosing.fitted.Goals as goal
 
-pub product_of-requires : goal.product_of-requires
-product_of-requires g c κs within = record {
-  scanned = c.requires;
-  fits = subst (λ (m : Netlist). FitsNetlist c.args.scanned.now.case.now.file m) c.netlist.ensures c.in-Ok.ensures;
-}
-
 pub returns-in-Ok : goal.returns-in-Ok
 returns-in-Ok g c =
     let s = c.args.scanned.now in

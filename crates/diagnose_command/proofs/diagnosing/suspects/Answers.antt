@@ -4,11 +4,6 @@ use Rattle.diagnose.specs.Candidates.{AreCandidates}
 use Rattle.diagnose.specs.Explaining.{told_cycles}
 use Rattle.diagnose_command.proofs.diagnosing.suspects.Goals as goal
 
-pub candidates-requires : goal.candidates-requires
-candidates-requires g c κs within =
-    let t = c.in_ok-core.ensures in
-    record { design = c.requires.design; core = t.core; fits = t.fits; few = t.few }
-
 pub returns : goal.returns
 returns g c =
     let s = c.args.scanned.now in
