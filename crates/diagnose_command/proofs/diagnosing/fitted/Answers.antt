@@ -16,7 +16,7 @@ returns-in-Ok g c =
     let n = s.case.now.netlist in
     let chains = design_chains n s.chains in
     let file = s.case.now.file in
-    let is = c.netlist.ensures ∙ ap (λ (i : Insertion). i.netlist) c.requires.is_scanned in
+    let is = c.netlist.ensures ∙ ap (λ (i : Insertion). i.netlist) c.requires.scanned.is_scanned in
     let fits = subst (λ (m : Netlist). FitsNetlist file m) is c.in-Ok.ensures in
     then_worked (test (FitsNetlist file (scanned_of n chains)) StilDoesNotFit) (λ _. diagnosis_due s.chains c.args.rank n file s.case.now.log) 0 tt c.product_of.result fits c.product_of.ensures
 
@@ -26,6 +26,6 @@ returns-in-Err g c =
     let n = s.case.now.netlist in
     let chains = design_chains n s.chains in
     let file = s.case.now.file in
-    let is = c.netlist.ensures ∙ ap (λ (i : Insertion). i.netlist) c.requires.is_scanned in
+    let is = c.netlist.ensures ∙ ap (λ (i : Insertion). i.netlist) c.requires.scanned.is_scanned in
     let refused : Answers (test (FitsNetlist file (scanned_of n chains)) StilDoesNotFit) (Err c.in-Err.stop) = subst (λ (m : Netlist). Answers (test (FitsNetlist file m) StilDoesNotFit) (Err c.in-Err.stop)) is c.in-Err.ensures in
     stopped (test (FitsNetlist file (scanned_of n chains)) StilDoesNotFit) (λ _. diagnosis_due s.chains c.args.rank n file s.case.now.log) 0 c.in-Err.stop refused
