@@ -1,4 +1,5 @@
 //! Two searches for slow lines run beside each other.
+ghost use Rattle.std.specs.Prelude.{IfOk};
 ghost use Rattle.netlist.specs.Designs.{IsDesign};
 
 use crate::meeting::MeetingEngine;
@@ -19,6 +20,17 @@ fn chain_of(alloc: Global, length: u32) -> Result<String, AllocError> {
         text.push_str(format!(in alloc; "n{} = NOT(n{})\n", k, k - 1)?.as_str())?;
     }
     Ok(text)
+}
+
+/// The core of such a chain.
+fn chain_core(alloc: Global, length: u32) -> Result<Core, AllocError>
+    ensures { IfOk result IsDesign }
+{
+    let text = chain_of(alloc, length)?;
+    match core_of(alloc, text.as_bytes()) {
+        Ok(core) => Ok(core),
+        Err(_) => Err(AllocError),
+    }
 }
 
 /// What two workers find for the slow lines of a core, with no held input.
@@ -51,7 +63,7 @@ fn search<R: Threads + Sync>(
 #[test]
 fn two_searches_for_slow_lines_meet(rt: HostRuntime) -> Result<(), Fail> {
     let alloc = rt.alloc();
-    let core = allocated(core_of(alloc, chain_of(alloc, 70)?.as_bytes()))?;
+    let core = chain_core(alloc, 70)?;
     let engine = allocated(MeetingEngine::of(alloc, &core))?;
     let found = allocated(search(&rt, alloc, &core, &engine))?;
     assert!(rt; engine.went_well());
