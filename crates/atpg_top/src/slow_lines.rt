@@ -88,9 +88,9 @@ fn some_frames(alloc: Global, netlist: &Netlist) -> Result<Core, NoMemory>
 }
 
 /// The five files, as this engine finds them.
-fn made_by<'a, R: Threads + Sync, E: Engine + Sync, G: Gate + Sync>(
-    ground: &Ground<'a, R, G>,
-    engine: &'a E,
+fn made_by<R: Threads + Sync, E: Engine + Sync, G: Gate + Sync>(
+    ground: &Ground<'_, R, G>,
+    engine: &E,
     trees: Trees,
 ) -> Result<TransitionFiles, NoMemory>
     requires { IsDesign ground.now.core.now × AreHoldsOf ground.now.core.now ground.now.holds.now × AreInRange ground.now.options.numbers }

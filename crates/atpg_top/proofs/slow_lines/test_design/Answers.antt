@@ -1,4 +1,4 @@
-use Rattle.std.proofs.Common.{◌∙◌, Err, None, map, subst, sym}
+use Rattle.std.proofs.Common.{◌∙◌, Err, None, map, rules, subst, sym}
 use Rattle.std.proofs.lemmas.List.{length-map}
 use Rattle.statement.specs.Netlists.{Netlist}
 use Rattle.netlist.specs.Designs.{IsDesign}
@@ -12,11 +12,17 @@ use Rattle.atpg_top.specs.Commands.{named_slow_due, slow_due}
 use Rattle.atpg_top.proofs.slow_lines.test_design.Goals as goal
 
 pub test_held-requires : goal.test_held-requires
-test_held-requires g c κs within =
+test_held-requires g c =
     let n = c.in-Ok.core in (
-      subst IsDesign (sym c.in-Ok.ensures) c.requires.design,
-      held_length n (map hold_of c.args.asked.now.named.now) (none_held n) c.in-Ok-holds_of.holds c.in-Ok-holds_of.ensures ∙ length-map n.inputs (λ _. None),
-      c.requires.range,
+      search rules,
+      (
+        search rules,
+        (
+          subst IsDesign (sym c.in-Ok.ensures) c.requires.design,
+          held_length n (map hold_of c.args.asked.now.named.now) (none_held n) c.in-Ok-holds_of.holds c.in-Ok-holds_of.ensures ∙ length-map n.inputs (λ _. None),
+          c.requires.range,
+        ),
+      ),
     )
 
 pub returns-in-Ok-holds_of : goal.returns-in-Ok-holds_of
