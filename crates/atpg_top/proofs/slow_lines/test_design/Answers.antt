@@ -17,7 +17,6 @@ test_held-requires g c =
       search rules,
       (
         search rules,
-        search rules,
         (
           subst IsDesign (sym c.in-Ok.ensures) c.requires.design,
           held_length n (map hold_of c.args.asked.now.named.now) (none_held n) c.in-Ok-holds_of.holds c.in-Ok-holds_of.ensures ∙ length-map n.inputs (λ _. None),
