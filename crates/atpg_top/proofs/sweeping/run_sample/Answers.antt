@@ -6,7 +6,7 @@ use Rattle.atpg_top.specs.Sweeps.{sweep_chains, sweep_limit}
 use Rattle.atpg_top.proofs.sweeping.run_sample.Goals as goal
 
 pub by_trees-requires : goal.by_trees-requires
-by_trees-requires g c = (search rules, search rules, record {
+by_trees-requires g c = (search rules, (search rules, record {
   design = c.requires;
   held = ap length c.in_ok-holds.ensures ∙ length-map c.args.core.now.inputs (λ _. None);
   range = record {
@@ -20,7 +20,7 @@ by_trees-requires g c = (search rules, search rules, record {
     times = (omega arith, omega arith);
   };
   wanted = search rules;
-})
+}))
 
 abbrev asked : Holds → List Bool → List Pattern → Asked
 asked holds marks first = record { holds = holds; chains = sweep_chains; limit = sweep_limit; refutes = false; faults = marks; percent = None; times = 1; first = first }
