@@ -90,10 +90,9 @@ fn run_sample<R: Threads + Wait + Sync, G: Gate + Sync>(
         times: 1,
     };
     let holds = Holds::none(alloc, core)?;
-    let wanted = Wanted {
-        faults: all_faults(alloc, core.netlist())?,
-        first: Vec::new(alloc),
-    };
+    let faults = all_faults(alloc, core.netlist())?;
+    let first = Vec::new(alloc);
+    let wanted = Wanted { faults, first };
     let task = Task {
         rt,
         alloc,

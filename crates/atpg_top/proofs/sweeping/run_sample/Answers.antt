@@ -1,26 +1,33 @@
-use Rattle.std.proofs.Common.{List, Bool, None, false, rules, arith, ◌∙◌, ap, length}
+use Rattle.std.proofs.Common.{None, true, rules, arith, ◌∙◌, ap, length}
 use Rattle.std.proofs.lemmas.List.{length-map}
-use Rattle.statement.specs.Patterns.{Holds, Pattern}
-use Rattle.run_files.specs.Runs.{Asked}
-use Rattle.atpg_top.specs.Sweeps.{sweep_chains, sweep_limit}
+use Rattle.std.proofs.lemmas.List.Elements.{All-nil}
+use Rattle.statement.specs.declared.lines.Fault.{Fault}
+use Rattle.statement.specs.Faults.{universe_of}
+use Rattle.asked_run.specs.Asked.{all_faults}
 use Rattle.atpg_top.proofs.sweeping.run_sample.Goals as goal
 
 pub by_trees-requires : goal.by_trees-requires
-by_trees-requires g c = (search rules, (search rules, record {
-  design = c.requires;
-  held = ap length c.in_ok-holds.ensures ∙ length-map c.args.core.now.inputs (λ _. None);
-  range = record {
-    numbers = record {
-      chains = (omega arith, omega arith);
-      workers = (omega arith, omega arith);
-      limit = (omega arith, omega arith);
-    };
-    percent = tt;
-    rounds = omega arith;
-    times = (omega arith, omega arith);
-  };
-  wanted = search rules;
-}))
-
-abbrev asked : Holds → List Bool → List Pattern → Asked
-asked holds marks first = record { holds = holds; chains = sweep_chains; limit = sweep_limit; refutes = false; faults = marks; percent = None; times = 1; first = first }
+by_trees-requires g c =
+    let n = c.args.core.now in (
+      search rules,
+      (search rules,
+      record {
+        design = c.requires;
+        held = ap length c.in_ok-holds.ensures ∙ length-map n.inputs (λ _. None);
+        range = record {
+          numbers = record {
+            chains = (omega arith, omega arith);
+            workers = (omega arith, omega arith);
+            limit = (omega arith, omega arith);
+          };
+          percent = tt;
+          rounds = omega arith;
+          times = (omega arith, omega arith);
+        };
+        wanted = record {
+          faults = ap length (c.in_ok-faults.ensures ∙ ap all_faults c.netlist.ensures) ∙ length-map (universe_of n) (λ (f : Fault). true);
+          first = rw c.new-first.ensures.items (All-nil _);
+          few = omega (arith, ap length c.new-first.ensures.items);
+        };
+      }),
+    )
