@@ -10,24 +10,26 @@ pub by_trees-requires : goal.by_trees-requires
 by_trees-requires g c =
     let n = c.args.core.now in (
       search rules,
-      (search rules,
-      record {
-        design = c.requires;
-        held = ap length c.in_ok-holds.ensures ∙ length-map n.inputs (λ _. None);
-        range = record {
-          numbers = record {
-            chains = (omega arith, omega arith);
-            workers = (omega arith, omega arith);
-            limit = (omega arith, omega arith);
+      (
+        search rules,
+        record {
+          design = c.requires;
+          held = ap length c.in_ok-holds.ensures ∙ length-map n.inputs (λ _. None);
+          range = record {
+            numbers = record {
+              chains = (omega arith, omega arith);
+              workers = (omega arith, omega arith);
+              limit = (omega arith, omega arith);
+            };
+            percent = tt;
+            rounds = omega arith;
+            times = (omega arith, omega arith);
           };
-          percent = tt;
-          rounds = omega arith;
-          times = (omega arith, omega arith);
-        };
-        wanted = record {
-          faults = ap length (c.in_ok-faults.ensures ∙ ap all_faults c.netlist.ensures) ∙ length-map (universe_of n) (λ (f : Fault). true);
-          first = rw c.new-first.ensures.items (All-nil _);
-          few = omega (arith, ap length c.new-first.ensures.items);
-        };
-      }),
+          wanted = record {
+            faults = ap length (c.in_ok-faults.ensures ∙ ap all_faults c.netlist.ensures) ∙ length-map (universe_of n) (λ (f : Fault). true);
+            first = rw c.new-first.ensures.items (All-nil _);
+            few = omega (arith, ap length c.new-first.ensures.items);
+          };
+        },
+      ),
     )
