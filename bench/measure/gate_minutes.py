@@ -1,5 +1,6 @@
 #!/usr/bin/env python3
-"""Follows a running `rt ci` and prints the processor seconds that each crate took: its proof, its wrong bodies, and the rest.
+"""Follows a running `rt ci` and prints the processor seconds that each crate took: its proof, its wrong bodies, and the rest; and the most memory
+that a process of the crate's had.
 
     rt ci & bench/measure/gate_minutes.py $!
 
@@ -10,10 +11,11 @@ import sys
 import time
 
 TICK = os.sysconf("SC_CLK_TCK")
+KINDS = ("proof", "wrong bodies", "tests", "rest")
 
 
 def processes():
-    """For each process its parent, its processor seconds, its words and its folder."""
+    """For each process its parent, its start (numbers of processes come again), its processor seconds, its words and its folder."""
     found = {}
     for name in os.listdir("/proc"):
         if not name.isdigit():
@@ -26,7 +28,7 @@ def processes():
             folder = os.readlink(f"/proc/{name}/cwd")
         except OSError:
             continue
-        found[int(name)] = int(fields[1]), (int(fields[11]) + int(fields[12])) / TICK, words, folder
+        found[int(name)] = int(fields[1]), fields[19], (int(fields[11]) + int(fields[12])) / TICK, words, folder
     return found
 
 
@@ -40,6 +42,16 @@ def below(found, top):
     return inside
 
 
+def peak_of(pid):
+    """The most memory that a process has had so far, in GB."""
+    try:
+        with open(f"/proc/{pid}/status", encoding="latin-1") as file:
+            kilobytes = [int(line.split()[1]) for line in file if line.startswith("VmHWM:")]
+    except OSError:
+        return 0
+    return max(kilobytes, default=0) / 1048576
+
+
 def place_of(words, folder):
     """The crate that a process works for, and what it does."""
     if "--crate-name" not in words:
@@ -51,29 +63,31 @@ def place_of(words, folder):
 
 
 def follow(top):
-    seconds, places = {}, {}
+    """For each crate and kind of work its seconds, and for each crate its peak. What a process takes counts for what it does at that time."""
+    table, most, before = {}, {}, {}
     while True:
         found = processes()
         if top not in found:
-            return seconds, places
+            return table, most
         for pid in below(found, top):
             if pid in found:
-                _, spent, words, folder = found[pid]
-                seconds[pid] = max(seconds.get(pid, 0), spent)
-                places[pid] = place_of(words, folder)
+                _, start, spent, words, folder = found[pid]
+                crate, kind = place_of(words, folder)
+                row = table.setdefault(crate, dict.fromkeys(KINDS, 0))
+                row[kind] += spent - before.get((pid, start), 0)
+                before[pid, start] = spent
+                most[crate] = max(most.get(crate, 0), peak_of(pid))
         time.sleep(0.5)
 
 
 def main():
-    seconds, places = follow(int(sys.argv[1]))
-    table, kinds = {}, ("proof", "wrong bodies", "tests", "rest")
-    for pid, (crate, kind) in places.items():
-        row = table.setdefault(crate, dict.fromkeys(kinds, 0))
-        row[kind] += seconds[pid]
-    print("| crate | " + " | ".join(kinds) + " |\n" + "|---" * (len(kinds) + 1) + "|")
+    began = time.monotonic()
+    table, most = follow(int(sys.argv[1]))
+    print("| crate | " + " | ".join(KINDS) + " | GB |\n" + "|---" * (len(KINDS) + 2) + "|")
     for crate, row in sorted(table.items(), key=lambda item: -sum(item[1].values())):
-        print(f"| `{crate}` | " + " | ".join(f"{row[kind]:.0f}" if row[kind] else "" for kind in kinds) + " |")
-    print(f"\n{sum(seconds.values()) / 60:.0f} minutes of processor in all")
+        print(f"| `{crate}` | " + " | ".join(f"{row[kind]:.0f}" if row[kind] else "" for kind in KINDS) + f" | {most[crate]:.1f} |")
+    total = sum(sum(row.values()) for row in table.values())
+    print(f"\n{total / 60:.0f} minutes of processor in all, {(time.monotonic() - began) / 60:.0f} by the clock")
 
 
 if __name__ == "__main__":

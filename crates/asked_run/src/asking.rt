@@ -141,13 +141,17 @@ fn applied_by(
     ensures applied { AnswersList (applied_step netlist.now holds.now file.now) result }
     ensures obey { IfOk result (λ patterns. All (IsPatternOf netlist.now holds.now) patterns.items) }
 {
-    let Ok(chains) = chains_of_file(alloc, netlist, file) else {
-        return Err(Stop::NoMemory);
+    let chains = match chains_of_file(alloc, netlist, file) {
+        Ok(chains) => chains,
+        Err(_) => return Err(Stop::NoMemory),
     };
-    let Ok(scanned) = insert(alloc, netlist, &chains) else {
-        return Err(Stop::NoMemory);
+    let scanned = match insert(alloc, netlist, &chains) {
+        Ok(scanned) => scanned,
+        Err(_) => return Err(Stop::NoMemory),
     };
-    match fitting(alloc, file, scanned.netlist()) {
+    let fits = fitting(alloc, file, scanned.netlist());
+    drop(scanned);
+    match fits {
         Ok(()) => match applied_patterns(alloc, netlist, &chains, holds, file) {
             Ok(patterns) => Ok(patterns),
             Err(_) => Err(Stop::NoMemory),
@@ -217,12 +221,16 @@ fn held_case(
     ensures reads { ReadsHeld (map hold_of named.now) (option_map (λ t. t.now) list.entry) (option_map (λ t. t.now) stil.entry) netlist result }
     ensures ready { IfOk result IsReady }
 {
-    let Ok(core) = Core::of(alloc, netlist) else {
-        return Err(Stop::NoMemory);
+    let core = match Core::of(alloc, netlist) {
+        Ok(core) => core,
+        Err(_) => return Err(Stop::NoMemory),
     };
     let holds = match holds_of(alloc, &core, named) {
         Ok(holds) => holds,
-        Err(stop) => return Err(stop),
+        Err(stop) => {
+            drop(core);
+            return Err(stop);
+        }
     };
     match wanted_of(alloc, core.netlist(), &holds, list, stil) {
         Ok(wanted) => Ok(RunCase {
@@ -230,7 +238,10 @@ fn held_case(
             holds,
             wanted,
         }),
-        Err(stop) => Err(stop),
+        Err(stop) => {
+            drop(core);
+            Err(stop)
+        }
     }
 }
 

@@ -1,8 +1,10 @@
 //! `run`: the five files of a file's netlist.
-ghost use Rattle.std.specs.Prelude.{◌≡◌, ◌≤◌, false, true, IfOk, None, length, map, option_map};
+ghost use Rattle.std.specs.Prelude.{◌≡◌, ◌≤◌, ◌||◌, false, true, IfOk, None, length, map, option_map};
 ghost use Rattle.std.specs.List.{All};
 ghost use Rattle.commands.specs.Contents.{most_bytes};
+ghost use Rattle.commands.specs.Due.{Deliver};
 ghost use Rattle.commands.specs.Names.{run_files, texts_of};
+ghost use Rattle.commands.specs.Reads.{ReadRow};
 ghost use Rattle.commands.specs.Rows.{CommandRow};
 ghost use Rattle.commands.specs.Worked.{IsWorked};
 ghost use Rattle.commands.specs.World.{world};
@@ -54,16 +56,19 @@ fn product_by(alloc: Global, made: RunFiles) -> Result<Product, AllocError>
     ensures shown { IfOk result (λ p. p.shown.items ≡ tests_line made.said.counts) }
     ensures fine { IfOk result (λ p. p.finding ≡ Fine) }
 {
-    let shown = tests_line(alloc, made.said.counts())?;
     let RunFiles {
         net,
         scan,
         stil,
         certificate,
         report,
-        said: _,
+        said,
     } = made;
-    five_files_product(alloc, net, scan, stil, certificate, report, shown)
+    let shown = tests_line(alloc, said.counts());
+    drop(said);
+    let shown = shown?;
+    let product = five_files_product(alloc, net, scan, stil, certificate, report, shown)?;
+    Ok(product)
 }
 
 /// The plan of a run.
@@ -138,6 +143,21 @@ fn by_clauses<R: Threads + Wait + Sync, G: Gate + Sync>(
     made_by(task, &clauses, options, wanted)
 }
 
+/// The five files, by this engine, or, where it gives up, by clauses.
+fn then_clauses<R: Threads + Wait + Sync, E: Engine + Sync + Drop, G: Gate + Sync>(
+    task: &Task<'_, G, R>,
+    first: E,
+    options: RunOptions,
+    wanted: Wanted,
+) -> Result<RunFiles, NoMemory>
+    requires { MayAsk task.now.core.now task.now.holds.now options wanted }
+    ensures { IfOk result (IsRun task.now.core.now (asked_by (plan_of options) wanted task.now.holds.now (E.refutes || true))) }
+{
+    let second = Clauses::of(task.alloc, task.core)?;
+    let few = options.numbers.limit;
+    made_by(task, &Then { first, few, second }, options, wanted)
+}
+
 /// The five files, by a tree of decisions for each class, or, where the search gives up, by clauses.
 fn by_trees_then_clauses<R: Threads + Wait + Sync, G: Gate + Sync>(
     task: &Task<'_, G, R>,
@@ -148,16 +168,14 @@ fn by_trees_then_clauses<R: Threads + Wait + Sync, G: Gate + Sync>(
     requires { MayAsk task.now.core.now task.now.holds.now options wanted }
     ensures { IfOk result (IsRun task.now.core.now (asked_by (plan_of options) wanted task.now.holds.now true)) }
 {
-    let second = Clauses::of(task.alloc, task.core)?;
-    let few = options.numbers.limit;
     match engine {
         TreeEngine::Podem => {
             let first = Podem::of(task.alloc, task.core)?;
-            made_by(task, &Then { first, few, second }, options, wanted)
+            then_clauses(task, first, options, wanted)
         }
         TreeEngine::Fan => {
             let first = Fan::of(task.alloc, task.core)?;
-            made_by(task, &Then { first, few, second }, options, wanted)
+            then_clauses(task, first, options, wanted)
         }
     }
 }
@@ -178,6 +196,21 @@ fn made_of<R: Threads + Wait + Sync, G: Gate + Sync>(
             by_trees_then_clauses(task, engine, options, wanted)
         }
     }
+}
+
+/// What is written and shown of what is made, as the engine that was asked for finds it.
+fn product_of<R: Threads + Wait + Sync, G: Gate + Sync>(
+    task: &Task<'_, G, R>,
+    options: RunOptions,
+    wanted: Wanted,
+) -> Result<Product, NoMemory>
+    requires { MayAsk task.now.core.now task.now.holds.now options wanted }
+    ensures due { IfOk result (λ p. made_due options task.now.core.now task.now.holds.now wanted.faults.items wanted.first.items (Deliver (texts_of p.texts.items) p.shown.items p.finding)) }
+    ensures count { IfOk result (λ p. length p.texts.items ≡ 5) }
+{
+    let made = made_of(task, options, wanted)?;
+    let product = product_by(task.alloc, made)?;
+    Ok(product)
 }
 
 /// What `run` makes of what is asked for.
@@ -204,10 +237,10 @@ fn run_case<R: Threads + Wait + Sync, G: Gate + Sync>(
         holds: &holds,
         stage,
     };
-    let Ok(made) = made_of(&task, options, wanted) else {
-        return Err(Stop::NoMemory);
-    };
-    match product_by(alloc, made) {
+    let product = product_of(&task, options, wanted);
+    drop(core);
+    drop(holds);
+    match product {
         Ok(product) => Ok(product),
         Err(_) => Err(Stop::NoMemory),
     }
@@ -271,6 +304,21 @@ fn ordered_work<R: Threads + Wait + Sync, G: Gate + Sync>(
     }
 }
 
+/// The texts of the files that the words name, or how the call ends without them.
+fn read_texts<'a, S: Shelf, F>(
+    alloc: Global,
+    shelf: &mut S,
+    names: RunNames<'a>,
+) -> Result<Vec<Vec<u8>>, Ending<'a, F>>
+    ensures { ReadRow (run_reads names.entry.net.now (option_map (λ t. t.now) names.entry.order) (option_map (λ t. t.now) names.entry.list) (option_map (λ t. t.now) names.entry.first))
+        (S.files shelf.old) (S.failures shelf.old) (S.files shelf.new) (S.failures shelf.new) result }
+{
+    match run_reads(alloc, names) {
+        Ok(reads) => read_in_order(alloc, shelf, reads.as_slice()),
+        Err(_) => Err(Ending::Memory),
+    }
+}
+
 /// Writes the five files of the netlist of the file that is named, under the names that begin as is asked.
 pub fn run_netlist<'a, R: Threads + Wait + Sync, S: Shelf, T: Sink, G: Gate + Sync>(
     rt: &R,
@@ -291,15 +339,11 @@ pub fn run_netlist<'a, R: Threads + Wait + Sync, S: Shelf, T: Sink, G: Gate + Sy
         options,
         named,
     } = words;
-    let writes = file_names(names.prefix);
-    let reads = match run_reads(alloc, names) {
-        Ok(reads) => reads,
-        Err(_) => return Ending::Memory,
-    };
-    let texts = match read_in_order(alloc, shelf, reads.as_slice()) {
+    let texts = match read_texts(alloc, shelf, names) {
         Ok(texts) => texts,
         Err(ending) => return ending,
     };
+    let writes = file_names(names.prefix);
     let worked = ordered_work(rt, alloc, texts, names, options, named, stage);
     deliver(alloc, shelf, out, &writes, worked)
 }

@@ -1,3 +1,5 @@
 pub mod Declined
 pub mod Pieces
 pub mod Held
+pub mod Swept
+pub mod Counted

@@ -10,6 +10,7 @@ ghost use Rattle.atpg_top.specs.FaultLists.{counts_line, listed_fault_line, faul
 ghost use Rattle.commands.specs.Pieces.{PutsText};
 ghost use Rattle.atpg_top.specs.inner.Pieces.{PutsFaultList, PutsPiece};
 
+use crate::counts::push_counts;
 use command_steps::faults_of;
 use fault_collapse::{Classes, collapse};
 use fault_universe::{FaultSet, faults_have_signals, push_text};
@@ -24,18 +25,6 @@ const PIECE_BYTES: usize = 65_536;
 /// Room for a line beside a piece. A design's names have at most 255 bytes, so each of its lines fits,
 /// and no memory is asked for once a piece is out.
 const LINE_BYTES: usize = 512;
-
-/// Adds the line that counts faults and classes.
-fn push_counts(text: &mut Vec<u8>, faults: u32, classes: u32) -> Result<(), AllocError>
-    ensures { OnOk result (text.new.items ≡ text.old.items ++ counts_line faults classes) }
-{
-    text.extend_from_slice(b"faults ")?;
-    text.extend_from_slice(Buffer::new().format(faults).as_bytes())?;
-    text.extend_from_slice(b" classes ")?;
-    text.extend_from_slice(Buffer::new().format(classes).as_bytes())?;
-    text.extend_from_slice(b"\n")?;
-    Ok(())
-}
 
 /// Adds the line of a fault.
 fn push_fault(
@@ -78,8 +67,10 @@ fn put_fault<T: Sink>(
     ensures { PutsPiece (T.taken out.old) (T.failures out.old) (T.taken out.new) (T.failures out.new)
         (piece.old.items ++ listed_fault_line netlist.now fault class) piece.new.items result }
 {
-    push_fault(piece, netlist, fault, class).map_err(|_| WriteRefusal::NoMemory)?;
-    put_piece(out, piece)
+    match push_fault(piece, netlist, fault, class) {
+        Ok(()) => put_piece(out, piece),
+        Err(_) => Err(WriteRefusal::NoMemory),
+    }
 }
 
 /// Puts the text and a line for each fault on the output, in pieces. The last may be empty: then it adds nothing.
@@ -108,7 +99,13 @@ fn begun(alloc: Global, faults: u32, classes: u32) -> Result<Vec<u8>, AllocError
     ensures { IfOk result (λ text. text.items ≡ counts_line faults classes) }
 {
     let mut text = Vec::with_capacity(alloc, PIECE_BYTES + LINE_BYTES)?;
-    push_counts(&mut text, faults, classes)?;
+    push_counts(
+        &mut text,
+        b"faults ",
+        u64::from(faults),
+        b" classes ",
+        u64::from(classes),
+    )?;
     Ok(text)
 }
 
@@ -122,8 +119,14 @@ pub fn put_fault_list<T: Sink>(
     requires { IsDesign netlist.now }
     ensures { PutsFaultList netlist.now (T.taken out.old) (T.failures out.old) (T.taken out.new) (T.failures out.new) result }
 {
-    let faults = faults_of(alloc, netlist).map_err(|_| WriteRefusal::NoMemory)?;
-    let classes = collapse(alloc, netlist, &faults).map_err(|_| WriteRefusal::NoMemory)?;
-    let mut text = begun(alloc, faults.len(), classes.count()).map_err(|_| WriteRefusal::NoMemory)?;
+    let Ok(faults) = faults_of(alloc, netlist) else {
+        return Err(WriteRefusal::NoMemory);
+    };
+    let Ok(classes) = collapse(alloc, netlist, &faults) else {
+        return Err(WriteRefusal::NoMemory);
+    };
+    let Ok(mut text) = begun(alloc, faults.len(), classes.count()) else {
+        return Err(WriteRefusal::NoMemory);
+    };
     put_faults(out, &mut text, netlist, &faults, &classes)
 }

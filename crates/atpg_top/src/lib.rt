@@ -28,6 +28,8 @@ ghost use Rattle.atpg_top.specs.Lines.{status_code};
 ghost use Rattle.atpg_top.specs.declared.status.Status.{Status};
 
 mod checking;
+mod cores;
+mod counts;
 mod fault_list;
 mod laws;
 mod lines;
@@ -57,7 +59,7 @@ use std::alloc::Global;
 use std::sync::Wait;
 use std::thread::Threads;
 use sweeping::sweep_sample;
-use test_commands::{grade_test, play_test, test_chains};
+use test_commands::{GradeNames, grade_test, play_test, test_chains};
 
 /// Does what was asked.
 fn perform<'a, R: Threads + Wait + Sync, S: Shelf, T: Sink, G: Gate + Sync>(
@@ -137,7 +139,14 @@ fn perform<'a, R: Threads + Wait + Sync, S: Shelf, T: Sink, G: Gate + Sync>(
             stil,
             prefix,
             chains,
-        } => grade_test(alloc, shelf, out, stage, net, stil, prefix, *chains),
+        } => {
+            let names = GradeNames {
+                net: *net,
+                stil: *stil,
+                prefix: *prefix,
+            };
+            grade_test(alloc, shelf, out, stage, names, *chains)
+        }
     }
 }
 

@@ -32,8 +32,17 @@ pub fn list_faults<'a, S: Shelf, T: Sink>(
         Err(Stop::NoMemory) => return Ending::Memory,
     };
     match put_fault_list(alloc, out, &netlist) {
-        Ok(()) => Ending::Ended(Finding::Fine),
-        Err(WriteRefusal::Failed) => Ending::WriteFailed(WriteFailure::Output),
-        Err(WriteRefusal::NoMemory) => Ending::Memory,
+        Ok(()) => {
+            drop(netlist);
+            Ending::Ended(Finding::Fine)
+        }
+        Err(WriteRefusal::Failed) => {
+            drop(netlist);
+            Ending::WriteFailed(WriteFailure::Output)
+        }
+        Err(WriteRefusal::NoMemory) => {
+            drop(netlist);
+            Ending::Memory
+        }
     }
 }

@@ -3,6 +3,8 @@ ghost use Rattle.std.specs.Prelude.{◌≡◌, ◌≤◌, ◌++◌, ◌∷◌, [
 ghost use Rattle.std.specs.List.{All};
 ghost use Rattle.plain_text.specs.Limits.{most_chains};
 ghost use Rattle.netlist.specs.Designs.{IsDesign};
+ghost use Rattle.statement.specs.Benches.{canonical};
+ghost use Rattle.scan_insert.specs.Scanned.{AreChainsOf, scanned_of};
 ghost use Rattle.commands.specs.Contents.{most_bytes};
 ghost use Rattle.commands.specs.Names.{texts_of};
 ghost use Rattle.commands.specs.Rows.{CommandRow};
@@ -13,15 +15,15 @@ ghost use Rattle.command_steps.specs.Ordering.{ordered_due};
 ghost use Rattle.atpg_top.specs.Commands.{scan_due, scanned_due};
 ghost use Rattle.atpg_top.specs.Scans.{IsScanProduct, scan_line};
 
+use crate::counts::push_counts;
 use bench_text::write;
 use command_line::scan_reads;
 use command_steps::{OneFile, Refusal, design_of, in_order, one_file_product};
 use commands::{Ending, FileName, Product, Stop, deliver, read_in_order};
-use itoa::Buffer;
 use netlist::{Netlist, NoMemory};
 use outside::{Shelf, Sink};
 use scan_insert::laws::scan_behaves;
-use scan_insert::{insert, stitch};
+use scan_insert::{Chains, insert, stitch};
 use std::alloc::{AllocError, Global};
 
 /// The line that `scan` prints.
@@ -29,12 +31,26 @@ fn count_line(alloc: Global, cells: usize, chains: u32) -> Result<Vec<u8>, Alloc
     ensures { IfOk result (λ t. t.items ≡ codes "cells " ++ (decimal cells ++ (codes " chains " ++ (decimal chains ++ codes "\n")))) }
 {
     let mut line = Vec::new(alloc);
-    line.extend_from_slice(b"cells ")?;
-    line.extend_from_slice(Buffer::new().format(cells).as_bytes())?;
-    line.extend_from_slice(b" chains ")?;
-    line.extend_from_slice(Buffer::new().format(chains).as_bytes())?;
-    line.extend_from_slice(b"\n")?;
+    push_counts(
+        &mut line,
+        b"cells ",
+        cells as u64,
+        b" chains ",
+        u64::from(chains),
+    )?;
     Ok(line)
+}
+
+/// The text of the design scanned in these chains.
+fn scanned_text(alloc: Global, netlist: &Netlist, chains: &Chains) -> Result<Vec<u8>, NoMemory>
+    requires design { IsDesign netlist.now }
+    requires chains { AreChainsOf netlist.now chains.now }
+    ensures { IfOk result (λ text. text.items ≡ canonical (scanned_of netlist.now chains.now)) }
+{
+    let scanned = insert(alloc, netlist, chains)?;
+    let text = write(alloc, scanned.netlist());
+    drop(scanned);
+    text
 }
 
 /// What `scan` makes of a design and the number of chains that is asked for.
@@ -46,8 +62,7 @@ fn texts_of(alloc: Global, netlist: &Netlist, asked: u32) -> Result<OneFile, NoM
     netlist.sound();
     scan_behaves();
     let chains = stitch(alloc, netlist.cells(), asked)?;
-    let scanned = insert(alloc, netlist, &chains)?;
-    let text = write(alloc, scanned.netlist())?;
+    let text = scanned_text(alloc, netlist, &chains)?;
     let cells = netlist.cells().len();
     let count = chains.count();
     match count_line(alloc, cells, count) {
@@ -79,7 +94,11 @@ fn work(alloc: Global, texts: Vec<Vec<u8>>, chains: u32) -> Result<Product, Stop
     ensures { IsWorked (scan_due chains (texts_of texts.items)) 1 result }
 {
     match design_of(alloc, texts) {
-        Ok(netlist) => product_of(alloc, &netlist, chains),
+        Ok(netlist) => {
+            let worked = product_of(alloc, &netlist, chains);
+            drop(netlist);
+            worked
+        }
         Err(stop) => Err(stop),
     }
 }

@@ -1,5 +1,5 @@
 //! `transition`: the five files of the slow lines of a file's netlist.
-ghost use Rattle.std.specs.Prelude.{◌≡◌, ◌≤◌, ◌∷◌, [], false, IfOk, length, map, true};
+ghost use Rattle.std.specs.Prelude.{◌≡◌, ◌≤◌, ◌||◌, ◌∷◌, [], false, IfOk, length, map, true};
 ghost use Rattle.std.specs.List.{All};
 ghost use Rattle.netlist.specs.Designs.{IsDesign};
 ghost use Rattle.netlist.specs.Holds.{AreHoldsOf};
@@ -15,6 +15,7 @@ ghost use Rattle.atpg_top.specs.Commands.{named_slow_due, slow_due, transition_d
 ghost use Rattle.asked_run.specs.Asked.{may_refute};
 ghost use Rattle.command_steps.specs.Runs.{tests_line, texts_in};
 
+use crate::cores::core_with;
 use clauses::{Clauses, Then};
 use command_line::{EngineName, Held, SlowOptions, TreeEngine};
 use command_steps::{Refusal, design_of, five_files_product, holds_of, tests_line};
@@ -51,6 +52,25 @@ struct Ground<'a, R, G: Gate> {
     options: SlowOptions,
 }
 
+/// What is written of a test for slow lines, and shown so.
+fn product_with(alloc: Global, made: TransitionFiles, shown: Vec<u8>) -> Result<Product, AllocError>
+    ensures texts { IfOk result (λ p. texts_of p.texts.items ≡ texts_in (transition_files_of made)) }
+    ensures count { IfOk result (λ p. length p.texts.items ≡ 5) }
+    ensures shown { IfOk result (λ p. p.shown ≡ shown) }
+    ensures fine { IfOk result (λ p. p.finding ≡ Fine) }
+{
+    let TransitionFiles {
+        net,
+        scan,
+        stil,
+        certificate,
+        report,
+        said,
+    } = made;
+    drop(said);
+    five_files_product(alloc, net, scan, stil, certificate, report, shown)
+}
+
 /// What is written and shown of a test for slow lines.
 fn product_by(alloc: Global, made: TransitionFiles) -> Result<Product, AllocError>
     ensures texts { IfOk result (λ p. texts_of p.texts.items ≡ texts_in (transition_files_of made)) }
@@ -58,16 +78,13 @@ fn product_by(alloc: Global, made: TransitionFiles) -> Result<Product, AllocErro
     ensures shown { IfOk result (λ p. p.shown.items ≡ tests_line made.said.counts) }
     ensures fine { IfOk result (λ p. p.finding ≡ Fine) }
 {
-    let shown = tests_line(alloc, made.said.counts)?;
-    let TransitionFiles {
-        net,
-        scan,
-        stil,
-        certificate,
-        report,
-        said: _,
-    } = made;
-    five_files_product(alloc, net, scan, stil, certificate, report, shown)
+    match tests_line(alloc, made.said.counts) {
+        Ok(shown) => product_with(alloc, made, shown),
+        Err(error) => {
+            drop(made);
+            Err(error)
+        }
+    }
 }
 
 /// The two frames of a design with its first input slow to rise. The frames of every slow line have the same signals, so what guides a search
@@ -81,10 +98,7 @@ fn some_frames(alloc: Global, netlist: &Netlist) -> Result<Core, NoMemory>
         value: false,
     };
     let (two, _) = frames(alloc, netlist, fault)?;
-    match Core::of(alloc, two) {
-        Ok(core) => Ok(core),
-        Err(_) => Err(NoMemory),
-    }
+    core_with(alloc, two)
 }
 
 /// The five files, as this engine finds them.
@@ -118,6 +132,20 @@ fn made_by<R: Threads + Sync, E: Engine + Sync, G: Gate + Sync>(
     transition_files(&errand, plan)
 }
 
+/// The five files, as this engine finds them, which is let go then.
+fn made_with<R: Threads + Sync, E: Engine + Sync + Drop, G: Gate + Sync>(
+    ground: &Ground<'_, R, G>,
+    engine: E,
+    trees: Trees,
+) -> Result<TransitionFiles, NoMemory>
+    requires { IsDesign ground.now.core.now × AreHoldsOf ground.now.core.now ground.now.holds.now × AreInRange ground.now.options.numbers }
+    ensures { IfOk result (IsTransitionRun ground.now.core.now ground.now.holds.now ground.now.options.numbers.chains ground.now.options.numbers.limit E.refutes) }
+{
+    let made = made_by(ground, &engine, trees);
+    drop(engine);
+    made
+}
+
 /// The five files, by a tree of decisions for each line. Those of FAN keep its rule on the line's own frames.
 fn by_trees<R: Threads + Sync, G: Gate + Sync>(
     ground: &Ground<'_, R, G>,
@@ -130,11 +158,11 @@ fn by_trees<R: Threads + Sync, G: Gate + Sync>(
     match engine {
         TreeEngine::Podem => {
             let podem = Podem::of(ground.alloc, guide)?;
-            made_by(ground, &podem, Trees::OfFrames)
+            made_with(ground, podem, Trees::OfFrames)
         }
         TreeEngine::Fan => {
             let fan = Fan::of(ground.alloc, guide)?;
-            made_by(ground, &fan, Trees::OnPlaces)
+            made_with(ground, fan, Trees::OnPlaces)
         }
     }
 }
@@ -148,11 +176,30 @@ fn by_clauses<R: Threads + Sync, G: Gate + Sync>(
     ensures { IfOk result (IsTransitionRun ground.now.core.now ground.now.holds.now ground.now.options.numbers.chains ground.now.options.numbers.limit true) }
 {
     let clauses = Clauses::of(ground.alloc, guide)?;
-    made_by(ground, &clauses, Trees::OfFrames)
+    made_with(ground, clauses, Trees::OfFrames)
 }
 
-/// The five files, by a tree of decisions for each line, or, where the search gives up, by clauses. What these settle may be by a tree of PODEM, so
+/// The five files, by this engine, unless it was refused memory, or, where it gives up, by clauses. What these settle may be by a tree of PODEM, so
 /// FAN's rule isn't asked of any.
+fn by_both<R: Threads + Sync, E: Engine + Sync + Drop, G: Gate + Sync>(
+    ground: &Ground<'_, R, G>,
+    first: Result<E, NoMemory>,
+    second: Clauses,
+) -> Result<TransitionFiles, NoMemory>
+    requires { IsDesign ground.now.core.now × AreHoldsOf ground.now.core.now ground.now.holds.now × AreInRange ground.now.options.numbers }
+    ensures { IfOk result (IsTransitionRun ground.now.core.now ground.now.holds.now ground.now.options.numbers.chains ground.now.options.numbers.limit (E.refutes || true)) }
+{
+    let few = ground.options.numbers.limit;
+    match first {
+        Ok(first) => made_with(ground, Then { first, few, second }, Trees::OfFrames),
+        Err(error) => {
+            drop(second);
+            Err(error)
+        }
+    }
+}
+
+/// The five files, by a tree of decisions for each line, or, where the search gives up, by clauses.
 fn by_trees_then_clauses<R: Threads + Sync, G: Gate + Sync>(
     ground: &Ground<'_, R, G>,
     guide: &Core,
@@ -162,16 +209,24 @@ fn by_trees_then_clauses<R: Threads + Sync, G: Gate + Sync>(
     ensures { IfOk result (IsTransitionRun ground.now.core.now ground.now.holds.now ground.now.options.numbers.chains ground.now.options.numbers.limit true) }
 {
     let second = Clauses::of(ground.alloc, guide)?;
-    let few = ground.options.numbers.limit;
     match engine {
-        TreeEngine::Podem => {
-            let first = Podem::of(ground.alloc, guide)?;
-            made_by(ground, &Then { first, few, second }, Trees::OfFrames)
-        }
-        TreeEngine::Fan => {
-            let first = Fan::of(ground.alloc, guide)?;
-            made_by(ground, &Then { first, few, second }, Trees::OfFrames)
-        }
+        TreeEngine::Podem => by_both(ground, Podem::of(ground.alloc, guide), second),
+        TreeEngine::Fan => by_both(ground, Fan::of(ground.alloc, guide), second),
+    }
+}
+
+/// The five files, as the engine that was asked for finds them, led by what these frames measure.
+fn led_by<R: Threads + Sync, G: Gate + Sync>(
+    ground: &Ground<'_, R, G>,
+    guide: &Core,
+) -> Result<TransitionFiles, NoMemory>
+    requires { IsDesign ground.now.core.now × AreHoldsOf ground.now.core.now ground.now.holds.now × AreInRange ground.now.options.numbers }
+    ensures { IfOk result (IsTransitionRun ground.now.core.now ground.now.holds.now ground.now.options.numbers.chains ground.now.options.numbers.limit (may_refute ground.now.options.engine)) }
+{
+    match ground.options.engine {
+        EngineName::Trees(engine) => by_trees(ground, guide, engine),
+        EngineName::Clauses => by_clauses(ground, guide),
+        EngineName::TreesThenClauses(engine) => by_trees_then_clauses(ground, guide, engine),
     }
 }
 
@@ -183,11 +238,9 @@ fn made_of<R: Threads + Sync, G: Gate + Sync>(
     ensures { IfOk result (IsTransitionRun ground.now.core.now ground.now.holds.now ground.now.options.numbers.chains ground.now.options.numbers.limit (may_refute ground.now.options.engine)) }
 {
     let guide = some_frames(ground.alloc, ground.core.netlist())?;
-    match ground.options.engine {
-        EngineName::Trees(engine) => by_trees(ground, &guide, engine),
-        EngineName::Clauses => by_clauses(ground, &guide),
-        EngineName::TreesThenClauses(engine) => by_trees_then_clauses(ground, &guide, engine),
-    }
+    let made = led_by(ground, &guide);
+    drop(guide);
+    made
 }
 
 /// What `transition` makes of a design with held inputs.
@@ -206,6 +259,33 @@ fn test_held<R: Threads + Sync, G: Gate + Sync>(
     }
 }
 
+/// What `transition` makes of a core, its inputs of these names held.
+fn test_core<R: Threads + Sync, G: Gate + Sync>(
+    rt: &R,
+    alloc: Global,
+    stage: &G,
+    core: &Core,
+    asked: &SlowAsked<'_, '_>,
+) -> Result<Product, Stop<Refusal>>
+    requires { IsDesign core.now × AreInRange asked.now.options.numbers }
+    ensures { IsWorked (named_slow_due asked.now.options (map hold_of asked.now.named.now) core.now) 5 result }
+{
+    match holds_of(alloc, core, asked.named) {
+        Ok(holds) => {
+            let ground = Ground {
+                rt,
+                alloc,
+                stage,
+                core,
+                holds: &holds,
+                options: asked.options,
+            };
+            test_held(&ground)
+        }
+        Err(stop) => Err(stop),
+    }
+}
+
 /// What `transition` makes of a design, its inputs of these names held.
 fn test_design<R: Threads + Sync, G: Gate + Sync>(
     rt: &R,
@@ -218,23 +298,12 @@ fn test_design<R: Threads + Sync, G: Gate + Sync>(
     requires range { AreInRange asked.now.options.numbers }
     ensures { IsWorked (named_slow_due asked.now.options (map hold_of asked.now.named.now) netlist) 5 result }
 {
-    let Ok(core) = Core::of(alloc, netlist) else {
+    let Ok(core) = core_with(alloc, netlist) else {
         return Err(Stop::NoMemory);
     };
-    match holds_of(alloc, &core, asked.named) {
-        Ok(holds) => {
-            let ground = Ground {
-                rt,
-                alloc,
-                stage,
-                core: &core,
-                holds: &holds,
-                options: asked.options,
-            };
-            test_held(&ground)
-        }
-        Err(stop) => Err(stop),
-    }
+    let worked = test_core(rt, alloc, stage, &core, asked);
+    drop(core);
+    worked
 }
 
 /// The work of `transition`.

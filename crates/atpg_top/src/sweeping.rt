@@ -18,21 +18,21 @@ ghost use Rattle.stil_read.specs.Reading.{StandsFor};
 ghost use Rattle.statement.specs.Tests.{vectors_in};
 ghost use Rattle.stil_vectors.specs.Fitting.{FitsNetlist};
 ghost use Rattle.statement.specs.Stils.{StilFile as File};
-ghost use Rattle.run_files.specs.declared.files.RunFiles.{RunFiles as Made};
 ghost use Rattle.atpg_top.specs.Commands.{sweep_due};
 ghost use Rattle.test_commands.specs.Plays.{IsPlay};
 ghost use Rattle.atpg_top.specs.Sweeps.{IsPlayedBack, IsSweep, IsSweepRun, number_line, sweep_chains, sweep_text};
+ghost use Rattle.atpg_top.specs.inner.Swept.{IsPassedText, IsPlayedText, IsSweepShown, outcomes_text, sizes_text, test_text};
 
+use crate::cores::core_with;
 use asked_run::{Task, all_faults, by_trees};
 use command_line::{EngineName, RunOptions, SearchNumbers, TreeEngine};
-use command_steps::{Refusal, push_count};
+use command_steps::{Refusal, core_of, push_count, scanned_of};
 use commands::{Ending, Finding, Product, Stop, deliver};
 use net_gen::{generate, samples_are_designs};
 use netlist::{Core, Holds, Netlist, NoMemory};
 use outside::{Gate, Shelf, Sink};
-use report::Report;
+use report::{Report, ReportCounts};
 use run_files::{RunFiles, Wanted};
-use scan_insert::{insert, stitch};
 use scan_play::{Played, vectors_decide};
 use std::alloc::{AllocError, Global};
 use std::sync::Wait;
@@ -58,10 +58,7 @@ fn sample_core(alloc: Global, seed: u64, gates: u32) -> Result<Core, NoMemory>
 {
     samples_are_designs();
     let netlist = generate(alloc, seed, gates)?;
-    match Core::of(alloc, netlist) {
-        Ok(core) => Ok(core),
-        Err(_) => Err(NoMemory),
-    }
+    core_with(alloc, netlist)
 }
 
 /// The texts of a run by one worker.
@@ -108,14 +105,10 @@ fn scanned_core(alloc: Global, netlist: &Netlist) -> Result<Core, NoMemory>
     requires { IsDesign netlist.now }
     ensures { IfOk result (λ core. core ≡ scanned_of netlist.now (design_chains netlist.now sweep_chains)) }
 {
-    netlist.sound();
-    let chains = stitch(alloc, netlist.cells(), CHAINS)?;
-    let scanned = insert(alloc, netlist, &chains)?;
-    let copy = scanned.netlist().copy(alloc)?;
-    match Core::of(alloc, copy) {
-        Ok(core) => Ok(core),
-        Err(_) => Err(NoMemory),
-    }
+    let scanned = scanned_of(alloc, netlist, CHAINS)?;
+    let core = core_of(alloc, &scanned);
+    drop(scanned);
+    core
 }
 
 /// The file that the text stands for.
@@ -143,6 +136,17 @@ fn play_passing(alloc: Global, core: &Core, file: &StilFile) -> Result<(), NoMem
     }
 }
 
+/// Reads the text of a test that the netlist passes, and plays it.
+fn play_text(alloc: Global, core: &Core, text: &[u8]) -> Result<(), NoMemory>
+    requires { IsPassedText core.now text.now }
+    ensures { OnOk result (IsPlayedText core.now text.now) }
+{
+    let file = read_back(alloc, text)?;
+    let played = play_passing(alloc, core, &file);
+    drop(file);
+    played
+}
+
 /// Reads the test of a run back, and plays it.
 fn play_back(alloc: Global, core: &Core, made: &RunFiles) -> Result<(), NoMemory>
     requires design { IsDesign core.now }
@@ -156,8 +160,9 @@ fn play_back(alloc: Global, core: &Core, made: &RunFiles) -> Result<(), NoMemory
     file_vectors();
     vectors_decide();
     let scanned = scanned_core(alloc, netlist)?;
-    let file = read_back(alloc, made.stil.as_slice())?;
-    play_passing(alloc, &scanned, &file)
+    let played = play_text(alloc, &scanned, made.stil.as_slice());
+    drop(scanned);
+    played
 }
 
 /// Adds a line with a word and a number.
@@ -169,23 +174,78 @@ fn push_line(text: &mut Vec<u8>, word: &[u8], number: u64) -> Result<(), AllocEr
     Ok(())
 }
 
+/// Adds the lines on the netlist and its faults.
+fn push_sizes(text: &mut Vec<u8>, counts: &ReportCounts) -> Result<(), AllocError>
+    ensures { OnOk result (text.new.items ≡ text.old.items ++ sizes_text counts.now) }
+{
+    push_line(text, b"gates ", counts.gates)?;
+    push_line(text, b"cells ", counts.cells)?;
+    push_line(text, b"faults ", counts.faults)?;
+    push_line(text, b"classes ", counts.classes)
+}
+
+/// Adds the lines on what became of the classes.
+fn push_outcomes(text: &mut Vec<u8>, counts: &ReportCounts) -> Result<(), AllocError>
+    ensures { OnOk result (text.new.items ≡ text.old.items ++ outcomes_text counts.now) }
+{
+    push_line(text, b"detected ", counts.detected)?;
+    push_line(text, b"redundant ", counts.redundant)?;
+    push_line(text, b"aborted ", counts.aborted)
+}
+
+/// Adds the lines on a test that passes.
+fn push_test(text: &mut Vec<u8>, counts: &ReportCounts) -> Result<(), AllocError>
+    ensures { OnOk result (text.new.items ≡ text.old.items ++ test_text counts.now) }
+{
+    push_line(text, b"patterns ", counts.patterns)?;
+    push_line(text, b"cycles ", counts.cycles)?;
+    text.extend_from_slice(b"play ok\n")?;
+    Ok(())
+}
+
 /// What is shown of a run whose test passes.
 fn text_of(alloc: Global, said: &Report) -> Result<Vec<u8>, AllocError>
     ensures { IfOk result (λ t. t.items ≡ sweep_text said.now) }
 {
     let counts = said.counts();
     let mut text = Vec::new(alloc);
-    push_line(&mut text, b"gates ", counts.gates)?;
-    push_line(&mut text, b"cells ", counts.cells)?;
-    push_line(&mut text, b"faults ", counts.faults)?;
-    push_line(&mut text, b"classes ", counts.classes)?;
-    push_line(&mut text, b"detected ", counts.detected)?;
-    push_line(&mut text, b"redundant ", counts.redundant)?;
-    push_line(&mut text, b"aborted ", counts.aborted)?;
-    push_line(&mut text, b"patterns ", counts.patterns)?;
-    push_line(&mut text, b"cycles ", counts.cycles)?;
-    text.extend_from_slice(b"play ok\n")?;
+    push_sizes(&mut text, &counts)?;
+    push_outcomes(&mut text, &counts)?;
+    push_test(&mut text, &counts)?;
     Ok(text)
+}
+
+/// What is shown of a run, once its test has been played.
+fn shown_of(alloc: Global, core: &Core, made: &RunFiles) -> Result<Vec<u8>, NoMemory>
+    requires design { IsDesign core.now }
+    requires run { IsSweepRun core.now made.now }
+    ensures { IfOk result (λ text. IsSweep core.now made.now × (text.items ≡ sweep_text made.now.said)) }
+{
+    play_back(alloc, core, made)?;
+    match text_of(alloc, &made.said) {
+        Ok(text) => Ok(text),
+        Err(_) => Err(NoMemory),
+    }
+}
+
+/// The same where the run may have been refused memory. Its files are let go as a whole.
+fn shown_by(
+    alloc: Global,
+    core: &Core,
+    made: Result<RunFiles, NoMemory>,
+) -> Result<Vec<u8>, NoMemory>
+    requires design { IsDesign core.now }
+    requires run { IfOk made (IsSweepRun core.now) }
+    ensures { IfOk result (IsSweepShown core.now) }
+{
+    match made {
+        Ok(made) => {
+            let shown = shown_of(alloc, core, &made);
+            drop(made);
+            shown
+        }
+        Err(error) => Err(error),
+    }
 }
 
 /// Runs the netlist of a seed, plays its test, and says how it went.
@@ -198,15 +258,13 @@ fn swept<R: Threads + Wait + Sync, G: Gate + Sync>(
 ) -> Result<Vec<u8>, NoMemory>
     requires least { fewest_gates ≤ gates }
     requires most { gates ≤ most_gates }
-    ensures { IfOk result (λ text. (made : Made) × IsSweep (sample gates (words_from_seed seed)) made × (text.items ≡ sweep_text made.said)) }
+    ensures { IfOk result (IsSweepShown (sample gates (words_from_seed seed))) }
 {
     let core = sample_core(alloc, seed, gates)?;
-    let made = run_sample(rt, alloc, &core, seed, stage)?;
-    play_back(alloc, &core, &made)?;
-    match text_of(alloc, &made.said) {
-        Ok(text) => Ok(text),
-        Err(_) => Err(NoMemory),
-    }
+    let made = run_sample(rt, alloc, &core, seed, stage);
+    let shown = shown_by(alloc, &core, made);
+    drop(core);
+    shown
 }
 
 /// The work of `sweep`, which waits for its worker.

@@ -7,7 +7,7 @@ use Rattle.std.proofs.lemmas.Option.{slice_get-get_or, slice_get_within, get_or_
 use Rattle.statement.specs.Netlists.{Netlist, Definition, signals}
 use Rattle.netlist.specs.Conditions.{IsSound, IsNumbered}
 use Rattle.bench_text.specs.Canonical.{ended}
-use Rattle.bench_text.specs.inner.Written.{AreSignals, IsWritable}
+use Rattle.bench_text.specs.Written.{AreSignals, IsWritable}
 use Rattle.bench_text.proofs.Lists.{get_map, get_back}
 use Rattle.bench_text.proofs.FormedLemmas.{contains-got, got-contains}
 

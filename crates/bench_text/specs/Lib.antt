@@ -10,5 +10,6 @@ pub mod Whole
 pub mod Netlists
 pub mod Reading
 pub mod Canonical
+pub mod Written
 pub mod Laws
 pub mod inner

@@ -8,4 +8,3 @@ pub mod Numbered
 pub mod OneLine
 pub mod Shown
 pub mod Stated
-pub mod Written

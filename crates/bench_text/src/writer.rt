@@ -5,7 +5,7 @@ ghost use Rattle.std.specs.List.{All};
 ghost use Rattle.statement.specs.Netlists.{Definition as Equation, signals};
 ghost use Rattle.statement.specs.Benches.{name_at, pin_list, port_line, definition_line, canonical};
 ghost use Rattle.bench_text.specs.Canonical.{further, equation_line, ended};
-ghost use Rattle.bench_text.specs.inner.Written.{AreSignals, IsWritable};
+ghost use Rattle.bench_text.specs.Written.{AreSignals, IsWritable};
 
 use crate::keywords::word_of;
 use netlist::{Definition, Netlist, NoMemory, SignalId};
@@ -23,8 +23,8 @@ fn push_port(out: &mut Vec<u8>, keyword: &[u8], name: &[u8]) -> Result<(), Alloc
     Ok(())
 }
 
-/// Writes a line for each input or output.
-fn push_ports(
+/// Writes `keyword(name)` and LF for each of these inputs or outputs.
+pub fn push_ports(
     out: &mut Vec<u8>,
     netlist: &Netlist,
     keyword: &[u8],
@@ -66,7 +66,7 @@ fn push_pins(out: &mut Vec<u8>, netlist: &Netlist, pins: &[SignalId]) -> Result<
 
 /// Writes `name = KIND(a, b)` and LF.
 #[tactic(auto, unfolding(statement::specs::Benches::definition_line))]
-fn push_equation(
+pub fn push_equation(
     out: &mut Vec<u8>,
     netlist: &Netlist,
     equation: &Definition,

@@ -11,7 +11,7 @@ use Rattle.netlist.proofs.Found.{defined}
 use Rattle.netlist.proofs.Lists.{All-from_contains, contains_filter, contains_map}
 use Rattle.netlist.proofs.Settling.{above_inputs, cells_below}
 use Rattle.bench_text.specs.Canonical.{ended, equation_line}
-use Rattle.bench_text.specs.inner.Written.{IsWritable}
+use Rattle.bench_text.specs.Written.{IsWritable}
 use Rattle.bench_text.proofs.WriteLemmas.{definition-writable}
 use Rattle.scan_insert.specs.Scanned.{cell_ids}
 use Rattle.cell_order.specs.Ordered.{OwnOrder, definitions_at, in_order, in_places}

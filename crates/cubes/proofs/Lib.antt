@@ -1,3 +1,4 @@
 pub mod RowLemmas
 pub mod MergeLemmas
 pub mod FillLemmas
+pub mod OpenLemmas

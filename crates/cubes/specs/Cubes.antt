@@ -1,5 +1,5 @@
 -- Cubes: patterns some of whose bits are left open.
-use Rattle.std.specs.Prelude.{ℕ, ◌≡◌, Bool, not, List, ◌++◌, length, slice_index_or, Some}
+use Rattle.std.specs.Prelude.{ℕ, ◌≡◌, Bool, not, List, ◌++◌, length, map, replicate, slice_index_or, Some}
 use Rattle.std.specs.List.{slice_get}
 use Rattle.statement.specs.declared.kinds.Tri.{Tri}
 use Rattle.statement.specs.declared.kinds.Tri.TheVariants.{X}
@@ -7,6 +7,7 @@ use Rattle.statement.specs.Values.{known}
 use Rattle.netlist.specs.ThreeValues.{AreAllowed}
 use Rattle.statement.specs.Netlists.{Netlist, cells}
 use Rattle.statement.specs.Patterns.{Holds, Obeys, Pattern}
+use Rattle.tri.specs.Labels.{held_value}
 
 -- the same in three values: an X is a bit that is left open
 pub record Cube : Type 0 where
@@ -48,3 +49,7 @@ pub record IsCubeOf (n : Netlist) (holds : Holds) (c : Cube) : Type 0 where
   pub inputs : length c.inputs ≡ length n.inputs
   pub cells : length c.cells ≡ length (cells n)
   pub held : (k : ℕ) (b : Bool) → slice_get holds k ≡ Some (Some b) → slice_get c.inputs k ≡ Some (known b)
+
+-- the cube that leaves each bit open but those of held inputs
+abbrev pub open_cube : Netlist → Holds → Cube
+open_cube n holds = record { inputs = map held_value holds; cells = replicate (length (cells n)) X }

@@ -34,7 +34,7 @@ use Rattle.evidence.specs.declared.engine.Found.{Found}
 use Rattle.evidence.specs.declared.engine.Found.TheVariants.{Test as Tested, Closed as Whole, Refuted, Partial}
 use Rattle.fan.specs.declared.cases.RoledCase.{RoledCase}
 use Rattle.fan.specs.Trees.{IsLeftOpen, PlaceStands}
-use Rattle.fan.specs.inner.Searching.{IsAt, IsOnPath, PlaceLooked, IsEndSeen, IsAnswer, IsSettled}
+use Rattle.fan.specs.inner.Searching.{IsAt, IsOnPath, PlaceLooked, IsEndSeen, IsAnswer, IsSettled, IsTested}
 use Rattle.fan.proofs.Placing.{places_may}
 use Rattle.fan.proofs.Turns.{all_on, none_on, stands_fits}
 
@@ -208,9 +208,16 @@ pub some_longer : (k : Case) (few limit : ℕ) (o : Option Found) → few ≤ li
 some_longer k few limit None l w = tt
 some_longer k few limit (Some found) l w = settled_longer k few limit found l w
 
-pub settled_ok : {E : Type 0} (k : Case) (limit : ℕ) (o : Result Found E) → IfOk o (IsSettled k limit) → IfOk o (IsAnswer k limit)
-settled_ok k limit (Ok found) w = settled_longer k limit limit found (omega arith) w
-settled_ok k limit (Err e) w = tt
+-- a test is an answer with any limit
+pub tested_settled : (k : Case) (limit : ℕ) (found : Found) → IsTested k found → IsSettled k limit found
+tested_settled k limit (Tested cube point) w = (w, tt)
+tested_settled k limit (Whole tree) w = absurd w
+tested_settled k limit (Refuted steps) w = absurd w
+tested_settled k limit (Partial tree) w = absurd w
+
+pub tested_ok : {E : Type 0} (k : Case) (limit : ℕ) (o : Result Found E) → IfOk o (IsTested k) → IfOk o (IsAnswer k limit)
+tested_ok k limit (Ok found) w = settled_longer k limit limit found (omega arith) (tested_settled k limit found w)
+tested_ok k limit (Err e) w = tt
 
 -- the tree of a search that gives up, where both sides are looked at
 pub fits_looked : (f : Fault) (n : Netlist) (holds : Holds) → AsksFit (PlaceLooked true f n holds) f n holds

@@ -7,9 +7,9 @@ ghost use Rattle.std.specs.Prelude.{◌≡◌};
 ghost use Rattle.pair_sim.specs.Sims.{IsNotBlocked};
 
 use crate::cases::RoledCase;
-use crate::frontier::Frontier;
-use crate::guides::has_head;
-use decisions::{Orders, Places, count_pins, gate_of, is_inverting, is_own_unknown, is_unknown};
+use crate::guides::{Guide, has_head};
+use crate::tracing::Course;
+use decisions::{count_pins, gate_of, is_inverting, is_own_unknown, is_unknown};
 use netlist::{Core, Kind, SignalId};
 use pair_sim::PairSim;
 use redundancy_cert::Side;
@@ -41,8 +41,7 @@ fn is_last(core: &Core, labels: &PairSim, pins: &[SignalId]) -> bool
 /// What the pins of a gate have to have so that it has its decided bit.
 fn implied<'a>(
     core: &'a Core,
-    orders: &Orders,
-    places: &mut Places,
+    course: &mut Course,
     labels: &PairSim,
     side: &Side,
 ) -> Option<Asked<'a>>
@@ -50,7 +49,7 @@ fn implied<'a>(
 {
     let (kind, all) = gate_of(core, side.signal)?;
     let inner = side.bit != is_inverting(kind);
-    let pins = places.left(core, labels, orders, side.signal, all);
+    let pins = course.left(core, labels, side.signal, all);
     let bit = match kind {
         Kind::And | Kind::Nand if inner || is_last(core, labels, pins) => inner,
         Kind::Or | Kind::Nor if !inner || is_last(core, labels, pins) => inner,
@@ -76,8 +75,7 @@ fn parity_left(core: &Core, labels: &PairSim, pins: &[SignalId], bit: bool) -> O
 /// What the other pins of a gate have to have so that an effect goes through.
 fn passed<'a>(
     core: &'a Core,
-    orders: &Orders,
-    places: &mut Places,
+    course: &mut Course,
     labels: &PairSim,
     gate: SignalId,
 ) -> Option<Asked<'a>>
@@ -90,7 +88,7 @@ fn passed<'a>(
         _ => return None,
     };
     Some(Asked {
-        pins: places.left(core, labels, orders, gate, all),
+        pins: course.left(core, labels, gate, all),
         bit,
         is_passed: true,
     })
@@ -99,9 +97,7 @@ fn passed<'a>(
 /// What is asked for by the decision at a place of the stack, or behind all of them by the gate of the D-frontier where there is one alone.
 pub(crate) fn asked_at<'a>(
     roled: &RoledCase<'a>,
-    frontier: &Frontier,
-    orders: &Orders,
-    places: &mut Places,
+    guide: &mut Guide,
     labels: &PairSim,
     stack: &[Side],
     place: usize,
@@ -111,11 +107,11 @@ pub(crate) fn asked_at<'a>(
 {
     let core = roled.case.core;
     let Some(side) = stack.get(place) else {
-        let gate = frontier.only_gate()?;
-        return passed(core, orders, places, labels, gate);
+        let gate = guide.frontier.only_gate()?;
+        return passed(core, &mut guide.course, labels, gate);
     };
     if has_head(roled.roles, side.signal) || !is_own_unknown(core, labels, side.signal) {
         return None;
     }
-    implied(core, orders, places, labels, side)
+    implied(core, &mut guide.course, labels, side)
 }

@@ -2,8 +2,15 @@
 //! back from the lowest objective to a head line and is short. The next two stop at the fanout stems nearest to what is wanted, so that a contradiction
 //! stays within its block: from all objectives together, and from the lowest. Four short ones more go back from the lowest to head lines, over pins by a
 //! hash: few faults that can be tested are missed by all of them. The last goes back from all objectives to head lines, up to the limit.
-ghost use Rattle.std.specs.Prelude.{◌≡◌, ◌≤◌, IfOk, IfSome, OnOk};
-ghost use Rattle.fan.specs.inner.Searching.{IsRoledCase, IsReady, IsAnswer, IsKept};
+ghost use Rattle.std.specs.Prelude.{◌≡◌, ◌≤◌, false, IfOk, IfSome, OnOk};
+ghost use Rattle.netlist.specs.Holds.{AreHoldsOf};
+ghost use Rattle.netlist.specs.Lines.{IsLineOf};
+ghost use Rattle.fan.specs.Trees.{HasEvidenceOnPlaces};
+ghost use Rattle.fan.specs.inner.Searching.{IsRoledCase, IsReady, IsAnswer, IsKept, AreOfCase};
+ghost use Rattle.evidence.specs.Answers.{HasEvidence, MayAnswer};
+ghost use Rattle.pair_sim.specs.Rooms.{IsReusableLabelRoom};
+ghost use Rattle.head_lines.specs.Rooms.{IsReusableRoleRoom};
+ghost use Rattle.fan.specs.inner.Rooms.{IsReusableFanRoom};
 
 use crate::cases::RoledCase;
 use crate::guides::{Guide, GuideRoom, Objectives, Stop};
@@ -100,11 +107,13 @@ fn attempts(
     labels: &mut PairSim,
     wants: &mut WantRoom,
     limit: u32,
-) -> Result<Found, AllocError>
+) -> Result<Found, NoMemory>
     requires start { IsReady roled.now.case labels.old wants.old }
     requires some { 1 ≤ limit }
     requires case { IsRoledCase roled.now }
-    ensures answer { IfOk result (IsAnswer roled.now.case limit) }
+    ensures evidence { IfOk result (HasEvidence roled.now.case.fault roled.now.case.core.now roled.now.case.holds.now limit) }
+    ensures rule { IfOk result (HasEvidenceOnPlaces roled.now.case.fault roled.now.case.core.now roled.now.case.holds.now limit) }
+    ensures kind { IfOk result (MayAnswer false) }
     ensures kept { OnOk result (IsKept roled.now.case labels.new wants.new) }
 {
     for number in 0..SHORT {
@@ -123,7 +132,111 @@ fn attempts(
         roles: roled.roles,
         looks: true,
     };
-    whole_search(alloc, &last, guide, labels, wants, limit)
+    let found = whole_search(alloc, &last, guide, labels, wants, limit)?;
+    Ok(found)
+}
+
+/// A search with labels of its own.
+fn search_alone(
+    alloc: Global,
+    roled: &RoledCase,
+    guide: &mut Guide,
+    limit: u32,
+) -> Result<Found, NoMemory>
+    requires some { 1 ≤ limit }
+    requires case { IsRoledCase roled.now }
+    ensures evidence { IfOk result (HasEvidence roled.now.case.fault roled.now.case.core.now roled.now.case.holds.now limit) }
+    ensures rule { IfOk result (HasEvidenceOnPlaces roled.now.case.fault roled.now.case.core.now roled.now.case.holds.now limit) }
+    ensures kind { IfOk result (MayAnswer false) }
+{
+    let case = &roled.case;
+    let mut wants = WantRoom::of(alloc, case.core)?;
+    let mut labels = PairSim::new(alloc, case.core, case.fault, case.holds)?;
+    attempts(alloc, roled, guide, &mut labels, &mut wants, limit)
+}
+
+/// A search once roles are those under the fault, and the roles back.
+fn search_aimed(
+    alloc: Global,
+    case: &Case,
+    room: RoleRoom,
+    guide: &mut Guide,
+    labels: &mut PairSim,
+    wants: &mut WantRoom,
+    limit: u32,
+) -> Result<(Found, RoleRoom), NoMemory>
+    requires some { 1 ≤ limit }
+    requires holds { AreHoldsOf case.now.core.now case.now.holds.now }
+    requires start { IsReady case.now labels.old wants.old }
+    requires roles { IsReusableRoleRoom case.now.core.now case.now.holds.now room }
+    ensures evidence { IfOk result (λ r. HasEvidence case.now.fault case.now.core.now case.now.holds.now limit r.0) }
+    ensures rule { IfOk result (λ r. HasEvidenceOnPlaces case.now.fault case.now.core.now case.now.holds.now limit r.0) }
+    ensures kind { IfOk result (λ r. MayAnswer false r.0) }
+    ensures kept { OnOk result (IsKept case.now labels.new wants.new) }
+    ensures roles { IfOk result (λ r. IsReusableRoleRoom case.now.core.now case.now.holds.now r.1) }
+{
+    let mut roles = room;
+    roles.aim(case.core, &case.fault, case.holds)?;
+    let roled = RoledCase {
+        case: Case {
+            core: case.core,
+            fault: case.fault,
+            holds: case.holds,
+        },
+        roles: roles.roles(),
+        looks: false,
+    };
+    let found = attempts(alloc, &roled, guide, labels, wants, limit)?;
+    Ok((found, roles))
+}
+
+/// What is kept of a case's labels.
+fn room_of(case: &Case, labels: PairSim) -> SimRoom
+    requires kept { AreOfCase case.now labels }
+    requires line { IsLineOf case.now.core.now case.now.fault.line }
+    ensures { IsReusableLabelRoom case.now.core.now case.now.holds.now result }
+{
+    labels.into_room()
+}
+
+/// A search in a room, and the room back. (All that may fail is behind one call, so that what a search holds is let go at one place.)
+fn search_kept(
+    fan: &Fan,
+    alloc: Global,
+    room: FanRoom,
+    case: &Case,
+    limit: u32,
+) -> Result<(Found, FanRoom), NoMemory>
+    requires some { 1 ≤ limit }
+    requires holds { AreHoldsOf case.now.core.now case.now.holds.now }
+    requires line { IsLineOf case.now.core.now case.now.fault.line }
+    requires room { IsReusableFanRoom case.now.core.now case.now.holds.now room }
+    ensures evidence { IfOk result (λ r. HasEvidence case.now.fault case.now.core.now case.now.holds.now limit r.0) }
+    ensures rule { IfOk result (λ r. HasEvidenceOnPlaces case.now.fault case.now.core.now case.now.holds.now limit r.0) }
+    ensures kind { IfOk result (λ r. MayAnswer false r.0) }
+    ensures room { IfOk result (λ r. IsReusableFanRoom case.now.core.now case.now.holds.now r.1) }
+{
+    let mut labels = PairSim::in_room(room.labels, case.core, case.fault, case.holds);
+    let mut wants = room.wants;
+    let mut guide = Guide::of(&fan.measures, &fan.orders, &case.fault, room.guide);
+    let (found, roles) = search_aimed(
+        alloc,
+        case,
+        room.roles,
+        &mut guide,
+        &mut labels,
+        &mut wants,
+        limit,
+    )?;
+    Ok((
+        found,
+        FanRoom {
+            labels: room_of(case, labels),
+            roles,
+            wants,
+            guide: guide.into_room(),
+        },
+    ))
 }
 
 impl Fan {
@@ -161,27 +274,27 @@ impl Engine for Fan {
         limit: u32,
         holds: &Holds,
     ) -> Result<Found, NoMemory> {
+        let roles = roles_of(alloc, core, &fault, holds)?;
         let room = GuideRoom::of(alloc, core, &self.orders)?;
         let mut guide = Guide::of(&self.measures, &self.orders, &fault, room);
-        let mut labels = PairSim::new(alloc, core, fault, holds)?;
-        let roles = roles_of(alloc, core, &fault, holds)?;
-        let mut wants = WantRoom::of(alloc, core)?;
-        let case = Case { core, fault, holds };
         let roled = RoledCase {
-            case,
+            case: Case { core, fault, holds },
             roles: &roles,
             looks: false,
         };
-        let found = attempts(alloc, &roled, &mut guide, &mut labels, &mut wants, limit)?;
-        Ok(found)
+        search_alone(alloc, &roled, &mut guide, limit)
     }
 
     fn room(&self, alloc: Global, core: &Core, holds: &Holds) -> Result<FanRoom, NoMemory> {
+        let wants = WantRoom::of(alloc, core)?;
+        let roles = RoleRoom::of(alloc, core, holds)?;
+        let guide = GuideRoom::of(alloc, core, &self.orders)?;
+        let labels = SimRoom::new(alloc, core, holds)?;
         Ok(FanRoom {
-            labels: SimRoom::new(alloc, core, holds)?,
-            roles: RoleRoom::of(alloc, core, holds)?,
-            wants: WantRoom::of(alloc, core)?,
-            guide: GuideRoom::of(alloc, core, &self.orders)?,
+            labels,
+            roles,
+            wants,
+            guide,
         })
     }
 
@@ -194,26 +307,7 @@ impl Engine for Fan {
         limit: u32,
         holds: &Holds,
     ) -> Result<(Found, FanRoom), NoMemory> {
-        let mut roles = room.roles;
-        roles.aim(core, &fault, holds)?;
-        let mut labels = PairSim::in_room(room.labels, core, fault, holds);
-        let mut wants = room.wants;
-        let mut guide = Guide::of(&self.measures, &self.orders, &fault, room.guide);
         let case = Case { core, fault, holds };
-        let roled = RoledCase {
-            case,
-            roles: roles.roles(),
-            looks: false,
-        };
-        let found = attempts(alloc, &roled, &mut guide, &mut labels, &mut wants, limit)?;
-        Ok((
-            found,
-            FanRoom {
-                labels: labels.into_room(),
-                roles,
-                wants,
-                guide: guide.into_room(),
-            },
-        ))
+        search_kept(self, alloc, room, &case, limit)
     }
 }

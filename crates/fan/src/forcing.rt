@@ -9,9 +9,9 @@ ghost use Rattle.fan.specs.inner.Searching.{IsRoledCase, IsOnPath, IsGoing, IsCh
 use crate::aims::{Asked, asked_at};
 use crate::cases::RoledCase;
 use crate::choosing::{is_free, is_split};
-use crate::frontier::Frontier;
+use crate::guides::Guide;
 use crate::standing::go;
-use decisions::{Aim, Orders, Places, excitation, may_differ};
+use decisions::{Aim, excitation, may_differ};
 use netlist::{Point, SignalId};
 use pair_sim::{PairSim, State};
 use redundancy_cert::Side;
@@ -28,6 +28,7 @@ pub enum Seen {
 }
 
 /// Whether a pin is asked of, and may be decided and isn't known.
+#[tactic(auto, using(crate::proofs::Beside::same_netlist, crate::proofs::Beside::not_blocked))]
 fn is_asked(
     roled: &RoledCase,
     labels: &PairSim,
@@ -90,6 +91,7 @@ fn find_at(roled: &RoledCase, labels: &mut PairSim, stack: &[Side], asked: &Aske
 }
 
 /// Looks at what excites the fault.
+#[tactic(auto, using(crate::proofs::Beside::same_netlist))]
 fn find_excited(roled: &RoledCase, labels: &mut PairSim, stack: &[Side]) -> Seen
     requires case { IsRoledCase roled.now }
     requires at { IsOnPath roled.now.case labels.old stack.now }
@@ -109,11 +111,10 @@ fn find_excited(roled: &RoledCase, labels: &mut PairSim, stack: &[Side]) -> Seen
 }
 
 /// Looks at what excites the fault, behind that at each decision, and then at the gate of the D-frontier where there is one alone.
+#[tactic(auto, using(crate::proofs::Beside::same_netlist, crate::proofs::Beside::not_blocked))]
 fn find_of(
     roled: &RoledCase,
-    frontier: &Frontier,
-    orders: &Orders,
-    places: &mut Places,
+    guide: &mut Guide,
     labels: &mut PairSim,
     stack: &[Side],
     number: usize,
@@ -126,7 +127,7 @@ fn find_of(
     if number == 0 {
         return find_excited(roled, labels, stack);
     }
-    match asked_at(roled, frontier, orders, places, labels, stack, number - 1) {
+    match asked_at(roled, guide, labels, stack, number - 1) {
         None => Seen::Nothing,
         Some(asked) => find_at(roled, labels, stack, &asked),
     }
@@ -135,9 +136,7 @@ fn find_of(
 /// Looks for a signal whose other side is closed.
 pub(crate) fn find_forced(
     roled: &RoledCase,
-    frontier: &Frontier,
-    orders: &Orders,
-    places: &mut Places,
+    guide: &mut Guide,
     labels: &mut PairSim,
     stack: &[Side],
 ) -> Seen
@@ -147,7 +146,7 @@ pub(crate) fn find_forced(
     ensures { IsForcedSeen roled.now labels.old labels.new stack.now result }
 {
     for number in 0..stack.len() + 2 {
-        match find_of(roled, frontier, orders, places, labels, stack, number) {
+        match find_of(roled, guide, labels, stack, number) {
             Seen::Reached(point) => return Seen::Reached(point),
             Seen::ShutBeside(aim) => return Seen::ShutBeside(aim),
             Seen::Guess(aim) => return Seen::Guess(aim),

@@ -2,7 +2,7 @@
 //! a decision more has gates come to it and leave it, what came and left is written down, and a decision that is taken back undoes that. Found anew at
 //! each turn, from the readers of all signals with an effect, it takes a fifth of a search, and a third where an effect reaches far. Nothing stands on
 //! it but the speed of the search.
-ghost use Rattle.std.specs.Prelude.{◌≡◌};
+ghost use Rattle.std.specs.Prelude.{◌≡◌, ⊤};
 ghost use Rattle.pair_sim.specs.Sims.{IsNotBlocked};
 
 use crate::paths::Paths;
@@ -10,6 +10,7 @@ use decisions::{Case, Effects, Measures, has_effect, may_get_effect, readers, si
 use netlist::{Core, Line, SignalId};
 use pair_sim::PairSim;
 use std::alloc::{AllocError, Global};
+use std::marker::Model;
 
 /// A gate that came, or left.
 #[derive(Clone, Copy)]
@@ -35,6 +36,13 @@ pub(crate) struct Frontier {
     /// One for each decision.
     marks: Vec<Mark>,
     looked_at: usize,
+}
+
+// Contracts see nothing of it.
+impl Model for Frontier {
+    ghost Value = { ⊤ };
+
+    ghost view = { λ _. tt };
 }
 
 impl Frontier {

@@ -1,6 +1,6 @@
 //! What a decision is made for: objectives, traced back to head lines, to inputs and cells, and to fanout stems; one of them alone (`tracing`), or
 //! all together by votes (`voting`). Nothing stands on it but the speed of the search.
-ghost use Rattle.std.specs.Prelude.{◌≡◌};
+ghost use Rattle.std.specs.Prelude.{◌≡◌, ⊤};
 ghost use Rattle.pair_sim.specs.Sims.{IsNotBlocked};
 
 use crate::cases::RoledCase;
@@ -15,6 +15,7 @@ use netlist::{Core, Fault, SignalId};
 use pair_sim::PairSim;
 use redundancy_cert::Side;
 use std::alloc::{AllocError, Global};
+use std::marker::Model;
 
 /// Whether a signal is a head line.
 pub(crate) fn has_head(roles: &[Role], signal: SignalId) -> bool {
@@ -51,6 +52,13 @@ pub(crate) struct GuideRoom {
     places: Places,
 }
 
+// Contracts see nothing of it, nor of a guide: no answer rests on them. (So what they are made of stands in no proof of the functions that hand them on.)
+impl Model for GuideRoom {
+    ghost Value = { ⊤ };
+
+    ghost view = { λ _. tt };
+}
+
 impl GuideRoom {
     /// Room for a netlist with these orders of pins.
     pub(crate) fn of(alloc: Global, core: &Core, orders: &Orders) -> Result<GuideRoom, AllocError> {
@@ -64,7 +72,7 @@ impl GuideRoom {
     }
 }
 
-/// What leads the search: measures, how it goes back, what is wanted, the D-frontier, and how far wide gates' pins are known. Signals with an effect are looked for before any decision.
+/// What leads the search: how it goes back, what is wanted, and the D-frontier. Signals with an effect are looked for before any decision.
 #[derive(Drop)]
 pub(crate) struct Guide<'a> {
     pub(crate) course: Course<'a>,
@@ -73,7 +81,12 @@ pub(crate) struct Guide<'a> {
     paths: Paths,
     pub(crate) effects: Effects,
     pub(crate) frontier: Frontier,
-    pub(crate) places: Places,
+}
+
+impl<'a> Model for Guide<'a> {
+    ghost Value = { ⊤ };
+
+    ghost view = { λ _. tt };
 }
 
 impl<'a> Guide<'a> {
@@ -84,46 +97,52 @@ impl<'a> Guide<'a> {
         fault: &Fault,
         room: GuideRoom,
     ) -> Guide<'a> {
+        let GuideRoom {
+            wants,
+            paths,
+            effects,
+            frontier,
+            places,
+        } = room;
         Guide {
-            course: Course {
-                measures,
-                orders,
-                salt: salt_of(fault),
-                way: Way::ByCost,
-                stop: Stop::Heads,
-            },
+            course: Course::of(measures, orders, places, salt_of(fault)),
             objectives: Objectives::All,
-            wants: room.wants,
-            paths: room.paths,
-            effects: room.effects,
-            frontier: room.frontier,
-            places: room.places,
+            wants,
+            paths,
+            effects,
+            frontier,
         }
     }
 
     /// The room, for another search.
     pub(crate) fn into_room(self) -> GuideRoom {
+        let Guide {
+            course,
+            objectives: _,
+            wants,
+            paths,
+            effects,
+            frontier,
+        } = self;
         GuideRoom {
-            wants: self.wants,
-            paths: self.paths,
-            effects: self.effects,
-            frontier: self.frontier,
-            places: self.places,
+            wants,
+            paths,
+            effects,
+            frontier,
+            places: course.into_places(),
         }
     }
 
     /// From here on it goes back so, to pins by what bits cost.
     pub(crate) fn go_back(&mut self, objectives: Objectives, stop: Stop) {
         self.objectives = objectives;
-        self.course.stop = stop;
-        self.course.way = Way::ByCost;
+        self.course.go(Way::ByCost, stop);
     }
 
     /// From here on it goes back from the lowest objective to head lines, to pins by a hash.
     pub(crate) fn go_anyhow(&mut self, round: u32) {
         self.objectives = Objectives::One;
-        self.course.stop = Stop::Heads;
-        self.course.way = Way::ByHash(round);
+        self.course.go(Way::ByHash(round), Stop::Heads);
     }
 
     /// Another search begins.
@@ -141,7 +160,7 @@ impl<'a> Guide<'a> {
         requires same { labels.now.netlist ≡ roled.now.case.core.now }
         requires not_blocked { IsNotBlocked labels.now }
     {
-        self.places.reach(depth);
+        self.course.reach(depth);
         if depth > 0 {
             return self.frontier.follow(roled.case.core, labels, depth);
         }
@@ -163,17 +182,16 @@ fn lowest_aim(
 {
     let lowest = objective(
         roled,
-        &guide.course,
+        &mut guide.course,
         &guide.frontier,
         labels,
         stack,
         &mut guide.paths,
-        &mut guide.places,
     )?;
     let Some(aim) = lowest else {
         return Ok(None);
     };
-    Ok(trace_from(roled, &guide.course, &mut guide.places, labels, aim))
+    Ok(trace_from(roled, &mut guide.course, labels, aim))
 }
 
 /// The decided bits of gates, and that the effect goes on, traced back together.
@@ -186,26 +204,16 @@ fn want_all(
     requires same { labels.now.netlist ≡ roled.now.case.core.now }
     requires not_blocked { IsNotBlocked labels.now }
 {
-    want_decided(
-        roled,
-        &guide.course,
-        &mut guide.places,
-        labels,
-        &mut guide.wants,
-        stack,
-    )?;
-    let nearest = guide.frontier.nearest(
-        roled.case.core,
-        guide.course.measures,
-        labels,
-        &mut guide.paths,
-    )?;
+    want_decided(roled, &mut guide.course, labels, &mut guide.wants, stack)?;
+    let measures = guide.course.measures();
+    let nearest = guide
+        .frontier
+        .nearest(roled.case.core, measures, labels, &mut guide.paths)?;
     match nearest {
         None => Ok(()),
         Some(gate) => want_through(
             roled.case.core,
-            &guide.course,
-            &mut guide.places,
+            &mut guide.course,
             labels,
             &mut guide.wants,
             gate,
@@ -230,11 +238,5 @@ pub(crate) fn best_aim(
     if !want_excited(roled, labels, &mut guide.wants)? {
         want_all(roled, guide, labels, stack)?;
     }
-    trace_back(
-        roled,
-        &guide.course,
-        &mut guide.places,
-        labels,
-        &mut guide.wants,
-    )
+    trace_back(roled, &mut guide.course, labels, &mut guide.wants)
 }

@@ -1,12 +1,13 @@
 //! Whether an effect may still come from a gate to an observed point, along signals that may differ. (The X-path check of Goel 1981.) A gate of the
 //! D-frontier from which it can't is no objective: deciding its pins doubles the tree and closes nothing. Nothing stands on it but the speed of the search.
-ghost use Rattle.std.specs.Prelude.{◌≡◌};
+ghost use Rattle.std.specs.Prelude.{◌≡◌, ⊤};
 ghost use Rattle.pair_sim.specs.Sims.{IsNotBlocked};
 
 use decisions::{gate_of, may_get_effect, readers, signal_count};
 use netlist::{Core, Line, SignalId};
 use pair_sim::PairSim;
 use std::alloc::{AllocError, Global};
+use std::marker::Model;
 
 /// The signals that were come to, round by round.
 #[derive(Drop)]
@@ -15,6 +16,13 @@ pub(crate) struct Paths {
     rounds: Vec<u32>,
     round: u32,
     waiting: Vec<SignalId>,
+}
+
+// Contracts see nothing of it.
+impl Model for Paths {
+    ghost Value = { ⊤ };
+
+    ghost view = { λ _. tt };
 }
 
 impl Paths {

@@ -7,21 +7,21 @@
 //! come back to it: most end in a test before that.
 //!
 //! Where the condition for a test is met the head lines are justified without a decision (`head_lines`), so such a path is a test.
-ghost use Rattle.std.specs.Prelude.{ℕ, ◌≡◌, ◌≤◌, ◌||◌, not, true, false, [], ◌∷◌, IfOk, IfSome, OnOk};
+ghost use Rattle.std.specs.Prelude.{◌≡◌, ◌≤◌, ◌||◌, not, true, false, [], ◌∷◌, IfOk, IfSome, OnOk};
 ghost use Rattle.decisions.specs.Climbing.{IsAtEnd, IsBacktrackStep};
 ghost use Rattle.head_lines.specs.HeadLines.{IsPlace};
 ghost use Rattle.head_lines.specs.Justified.{IsMetAt};
 ghost use Rattle.head_lines.specs.Rooms.{IsReusableWantRoom};
 ghost use Rattle.pair_sim.specs.Sims.{sim};
 ghost use Rattle.redundancy_cert.specs.declared.nodes.Node.{Node as NodeOf};
-ghost use Rattle.fan.specs.inner.Searching.{IsRoledCase, IsAt, MayTurn, IsGoing, IsSideClosed, IsSideOpen, IsStepped, IsChosen, IsReady, IsAnswer, IsSettled, IsEnd, IsKept, AreOfCase};
+ghost use Rattle.fan.specs.inner.Searching.{IsRoledCase, IsAt, MayTurn, IsGoing, IsSideClosed, IsSideOpen, IsStepped, IsChosen, IsReady, IsAnswer, IsSettled, IsTested, HasGivenUp, IsEnd, IsKept, AreOfCase};
 
 use crate::cases::RoledCase;
 use crate::choosing::choose;
 use crate::forcing::{Seen, find_forced};
 use crate::guides::{Guide, best_aim};
 use crate::standing::{go, stand_at_end};
-use decisions::{Aim, Effects, Step, climb, close_both, closed_tree, one_if, push, tree_so_far};
+use decisions::{Aim, Step, climb, close_both, closed_tree, one_if, push, tree_so_far};
 use evidence::Found;
 use head_lines::{WantRoom, justified_cube};
 use netlist::Point;
@@ -44,7 +44,7 @@ pub enum End {
 fn after_closed(
     alloc: Global,
     roled: &RoledCase,
-    effects: &mut Effects,
+    guide: &mut Guide,
     labels: &mut PairSim,
     stack: &mut Vec<Side>,
     side: Aim,
@@ -57,7 +57,16 @@ fn after_closed(
 {
     match go(roled, labels, stack, side.signal, !side.bit) {
         State::Test(point) => Ok(Step::Found(point)),
-        State::Blocked => close_both(alloc, effects, labels, stack, side.signal, side.bit),
+        State::Blocked => {
+            close_both(
+                alloc,
+                &mut guide.effects,
+                labels,
+                stack,
+                side.signal,
+                side.bit,
+            )
+        }
         State::Going => push(stack, side.signal, !side.bit, Other::Shut),
     }
 }
@@ -90,7 +99,7 @@ fn after_going(
 fn split(
     alloc: Global,
     roled: &RoledCase,
-    effects: &mut Effects,
+    guide: &mut Guide,
     labels: &mut PairSim,
     stack: &mut Vec<Side>,
     side: Aim,
@@ -107,7 +116,7 @@ fn split(
     };
     match go(roled, labels, stack, other.signal, other.bit) {
         State::Test(point) => Ok(Step::Found(point)),
-        State::Blocked => after_closed(alloc, roled, effects, labels, stack, other),
+        State::Blocked => after_closed(alloc, roled, guide, labels, stack, other),
         State::Going => {
             labels.undo();
             after_going(roled, labels, stack, other)
@@ -119,7 +128,7 @@ fn split(
 fn hurry(
     alloc: Global,
     roled: &RoledCase,
-    effects: &mut Effects,
+    guide: &mut Guide,
     labels: &mut PairSim,
     stack: &mut Vec<Side>,
     side: Aim,
@@ -133,7 +142,7 @@ fn hurry(
 {
     match go(roled, labels, stack, side.signal, side.bit) {
         State::Test(point) => Ok(Step::Found(point)),
-        State::Blocked => after_closed(alloc, roled, effects, labels, stack, side),
+        State::Blocked => after_closed(alloc, roled, guide, labels, stack, side),
         State::Going => push(stack, side.signal, side.bit, Other::Untried),
     }
 }
@@ -142,7 +151,7 @@ fn hurry(
 fn decide(
     alloc: Global,
     roled: &RoledCase,
-    effects: &mut Effects,
+    guide: &mut Guide,
     labels: &mut PairSim,
     stack: &mut Vec<Side>,
     wanted: &Option<Aim>,
@@ -154,9 +163,9 @@ fn decide(
 {
     let aim = choose(roled, labels, stack, wanted);
     if roled.looks {
-        split(alloc, roled, effects, labels, stack, aim)
+        split(alloc, roled, guide, labels, stack, aim)
     } else {
-        hurry(alloc, roled, effects, labels, stack, aim)
+        hurry(alloc, roled, guide, labels, stack, aim)
     }
 }
 
@@ -174,14 +183,7 @@ fn take_turn(
     ensures { IfOk result (IsStepped roled.now stack.old.items labels.new stack.new.items) }
 {
     guide.follow(roled, labels, stack.len())?;
-    let seen = find_forced(
-        roled,
-        &guide.frontier,
-        guide.course.orders,
-        &mut guide.places,
-        labels,
-        stack,
-    );
+    let seen = find_forced(roled, guide, labels, stack);
     match seen {
         Seen::Reached(point) => Ok(Step::Found(point)),
         Seen::ShutBeside(aim) => {
@@ -189,12 +191,12 @@ fn take_turn(
                 signal: aim.signal,
                 bit: !aim.bit,
             };
-            after_closed(alloc, roled, &mut guide.effects, labels, stack, other)
+            after_closed(alloc, roled, guide, labels, stack, other)
         }
-        Seen::Guess(aim) => hurry(alloc, roled, &mut guide.effects, labels, stack, aim),
+        Seen::Guess(aim) => hurry(alloc, roled, guide, labels, stack, aim),
         Seen::Nothing => {
             let wanted = best_aim(roled, guide, labels, stack)?;
-            decide(alloc, roled, &mut guide.effects, labels, stack, &wanted)
+            decide(alloc, roled, guide, labels, stack, &wanted)
         }
     }
 }
@@ -202,7 +204,7 @@ fn take_turn(
 /// The path's end is closed: goes back.
 fn go_back(
     alloc: Global,
-    effects: &mut Effects,
+    guide: &mut Guide,
     labels: &mut PairSim,
     stack: &mut Vec<Side>,
 ) -> Result<Step, AllocError>
@@ -211,7 +213,7 @@ fn go_back(
     ensures step { IfOk result (IsBacktrackStep (NodeOf.Closed ∷ []) stack.old.items stack.new.items) }
 {
     let done = closed_tree(alloc)?;
-    match climb(effects, labels, stack, done)? {
+    match climb(&mut guide.effects, labels, stack, done)? {
         Some(nodes) => Ok(Step::Done(nodes)),
         None => Ok(Step::On(true)),
     }
@@ -235,7 +237,7 @@ fn turn(
     }
     match stand_at_end(roled, labels, stack) {
         State::Test(point) => Ok(Step::Found(point)),
-        State::Blocked => go_back(alloc, &mut guide.effects, labels, stack),
+        State::Blocked => go_back(alloc, guide, labels, stack),
         State::Going => take_turn(alloc, roled, guide, labels, stack),
     }
 }
@@ -308,6 +310,7 @@ fn search_from(
 }
 
 /// The test at a path where the condition for one is met.
+#[tactic(auto, using(crate::proofs::Steps::met_case))]
 fn test_at(
     alloc: Global,
     roled: &RoledCase,
@@ -318,7 +321,7 @@ fn test_at(
     requires case { IsRoledCase roled.now }
     requires met { IsMetAt roled.now.case.fault roled.now.case.core.now roled.now.case.holds.now labels.now point }
     requires wants { IsReusableWantRoom roled.now.case.core.now wants.old }
-    ensures answer { (limit : ℕ) → IfOk result (IsSettled roled.now.case limit) }
+    ensures test { IfOk result (IsTested roled.now.case) }
     ensures kept { OnOk result (IsKept roled.now.case labels.now wants.new) }
 {
     let cube = justified_cube(
@@ -335,6 +338,7 @@ fn test_at(
 }
 
 /// A search whose tree is dropped where it gives up: a test, a tree without Open, or nothing.
+#[tactic(auto, using(crate::proofs::Looked::tested_settled))]
 pub(crate) fn short_search(
     alloc: Global,
     roled: &RoledCase,
@@ -360,7 +364,24 @@ pub(crate) fn short_search(
     }
 }
 
+/// The tree where a search gives up that looks at both sides of a decision.
+fn given_up(
+    alloc: Global,
+    roled: &RoledCase,
+    labels: &PairSim,
+    stack: Vec<Side>,
+    limit: u32,
+) -> Result<Found, AllocError>
+    requires looks { roled.now.looks ≡ true }
+    requires given { HasGivenUp roled.now limit labels.now stack.items }
+    ensures { IfOk result (IsAnswer roled.now.case limit) }
+{
+    let nodes = tree_so_far(alloc, stack)?;
+    Ok(Found::Partial(Tree::new(nodes)))
+}
+
 /// A search that looks at both sides of a decision: a test, a tree without Open, or a tree with as many Closed as the limit.
+#[tactic(auto, using(crate::proofs::Looked::tested_ok))]
 pub(crate) fn whole_search(
     alloc: Global,
     roled: &RoledCase,
@@ -380,9 +401,6 @@ pub(crate) fn whole_search(
     match search_from(alloc, roled, guide, labels, &mut stack, limit)? {
         End::Met(point) => test_at(alloc, roled, labels, point, wants),
         End::AllClosed(nodes) => Ok(Found::Closed(Tree::new(nodes))),
-        End::GivenUp => {
-            let nodes = tree_so_far(alloc, stack)?;
-            Ok(Found::Partial(Tree::new(nodes)))
-        }
+        End::GivenUp => given_up(alloc, roled, labels, stack, limit),
     }
 }

@@ -1,6 +1,6 @@
 //! The lowest objective alone, traced back gate by gate: to the pin that is hardest to have where all pins are needed, and else to the easiest. (The
 //! backtrace of Goel 1981.) Nothing stands on it but the speed of the search.
-ghost use Rattle.std.specs.Prelude.{◌≡◌};
+ghost use Rattle.std.specs.Prelude.{◌≡◌, ⊤};
 ghost use Rattle.pair_sim.specs.Sims.{IsNotBlocked};
 
 use crate::cases::RoledCase;
@@ -15,6 +15,7 @@ use netlist::{Core, Kind, SignalId};
 use pair_sim::PairSim;
 use redundancy_cert::Side;
 use std::alloc::AllocError;
+use std::marker::Model;
 
 /// Which pin of a gate is gone to, unless it is one by a hash.
 #[derive(Clone, Copy, Drop)]
@@ -36,17 +37,95 @@ pub(crate) enum Way {
     ByHash(u32),
 }
 
-/// What a backtrace goes by: what bits cost, the orders of wide gates' pins, what is wanted where both cost alike, how it goes from gate to gate, and where it stops.
-#[derive(Clone, Copy, Drop)]
+/// What a backtrace goes by: what bits cost, the orders of wide gates' pins and how far each is known, what is wanted where both bits cost alike, how it
+/// goes from gate to gate, and where it stops.
+#[derive(Drop)]
 pub(crate) struct Course<'a> {
-    pub measures: &'a Measures,
-    pub orders: &'a Orders,
-    pub salt: u64,
-    pub way: Way,
-    pub stop: Stop,
+    measures: &'a Measures,
+    orders: &'a Orders,
+    places: Places,
+    salt: u64,
+    way: Way,
+    stop: Stop,
 }
 
-impl Course<'_> {
+// Contracts see nothing of it.
+impl<'a> Model for Course<'a> {
+    ghost Value = { ⊤ };
+
+    ghost view = { λ _. tt };
+}
+
+impl<'a> Course<'a> {
+    /// By what bits cost, to head lines.
+    pub(crate) fn of(
+        measures: &'a Measures,
+        orders: &'a Orders,
+        places: Places,
+        salt: u64,
+    ) -> Course<'a> {
+        Course {
+            measures,
+            orders,
+            places,
+            salt,
+            way: Way::ByCost,
+            stop: Stop::Heads,
+        }
+    }
+
+    /// The places, for another course.
+    pub(crate) fn into_places(self) -> Places {
+        let Course {
+            measures: _,
+            orders: _,
+            places,
+            salt: _,
+            way: _,
+            stop: _,
+        } = self;
+        places
+    }
+
+    /// From here on it goes so.
+    pub(crate) fn go(&mut self, way: Way, stop: Stop) {
+        self.way = way;
+        self.stop = stop;
+    }
+
+    pub(crate) fn stop(&self) -> Stop {
+        self.stop
+    }
+
+    pub(crate) fn measures(&self) -> &'a Measures {
+        self.measures
+    }
+
+    /// So many decisions stand.
+    pub(crate) fn reach(&mut self, depth: usize) {
+        self.places.reach(depth);
+    }
+
+    /// The first pin of an order that is X.
+    fn first_unknown(&mut self, core: &Core, labels: &PairSim, number: usize) -> Option<SignalId>
+        requires { labels.now.netlist ≡ core.now }
+    {
+        self.places.first_unknown(core, labels, self.orders, number)
+    }
+
+    /// The pins of a gate, of many pins from the first one on that is X.
+    pub(crate) fn left<'p>(
+        &mut self,
+        core: &Core,
+        labels: &PairSim,
+        gate: SignalId,
+        pins: &'p [SignalId],
+    ) -> &'p [SignalId]
+        requires { labels.now.netlist ≡ core.now }
+    {
+        self.places.left(core, labels, self.orders, gate, pins)
+    }
+
     /// The bit that is cheaper. Where both cost alike it depends on fault and signal: were it the same for all faults, their tests would be alike,
     /// and a chain of parity gates would need one for each input.
     pub(crate) fn cheap_bit(&self, signal: SignalId) -> bool {
@@ -109,8 +188,7 @@ fn order_of(course: &Course, gate: SignalId, pins: &[SignalId], pick: Pick) -> O
 /// The pin that is X to go to.
 pub(crate) fn picked(
     core: &Core,
-    course: &Course,
-    places: &mut Places,
+    course: &mut Course,
     labels: &PairSim,
     gate: SignalId,
     pins: &[SignalId],
@@ -120,7 +198,7 @@ pub(crate) fn picked(
 {
     match order_of(course, gate, pins, pick) {
         None => best_pin(core, course, labels, pins, pick),
-        Some(number) => places.first_unknown(core, labels, course.orders, number),
+        Some(number) => course.first_unknown(core, labels, number),
     }
 }
 
@@ -145,13 +223,7 @@ fn into_parity(
 }
 
 /// The pin to go to from a gate that should have a bit, and the bit of the pin.
-fn into_gate(
-    core: &Core,
-    course: &Course,
-    places: &mut Places,
-    labels: &PairSim,
-    aim: Aim,
-) -> Option<Aim>
+fn into_gate(core: &Core, course: &mut Course, labels: &PairSim, aim: Aim) -> Option<Aim>
     requires { labels.now.netlist ≡ core.now }
 {
     let (kind, pins) = gate_of(core, aim.signal)?;
@@ -162,7 +234,7 @@ fn into_gate(
         Kind::Xor | Kind::Xnor => return into_parity(core, course, labels, pins, bit),
         _ => Pick::Easiest(bit),
     };
-    let signal = picked(core, course, places, labels, aim.signal, pins, pick)?;
+    let signal = picked(core, course, labels, aim.signal, pins, pick)?;
     Some(Aim { signal, bit })
 }
 
@@ -222,19 +294,13 @@ fn lowest_of(core: &Core, labels: &PairSim, pins: &[SignalId]) -> Option<SignalI
 }
 
 /// The lowest pin that is X of a gate that the effect should go through.
-fn lowest_pin(
-    core: &Core,
-    course: &Course,
-    places: &mut Places,
-    labels: &PairSim,
-    gate: SignalId,
-) -> Option<Aim>
+fn lowest_pin(core: &Core, course: &mut Course, labels: &PairSim, gate: SignalId) -> Option<Aim>
     requires { labels.now.netlist ≡ core.now }
 {
     let (kind, pins) = gate_of(core, gate)?;
     let signal = match course.orders.number(gate, pins, By::Lowest) {
         None => lowest_of(core, labels, pins)?,
-        Some(number) => places.first_unknown(core, labels, course.orders, number)?,
+        Some(number) => course.first_unknown(core, labels, number)?,
     };
     let bit = passing_bit(course, kind, signal);
     Some(Aim { signal, bit })
@@ -244,12 +310,11 @@ fn lowest_pin(
 /// aren't justified and of the pins of the nearest gate of the D-frontier. What is low is decided by little, so it fails early.
 pub(crate) fn objective(
     roled: &RoledCase,
-    course: &Course,
+    course: &mut Course,
     frontier: &Frontier,
     labels: &PairSim,
     stack: &[Side],
     paths: &mut Paths,
-    places: &mut Places,
 ) -> Result<Option<Aim>, AllocError>
     requires same { labels.now.netlist ≡ roled.now.case.core.now }
     requires not_blocked { IsNotBlocked labels.now }
@@ -259,8 +324,8 @@ pub(crate) fn objective(
         return Ok(Some(aim));
     }
     let decided = lowest_decided(roled, labels, stack);
-    if let Some(gate) = frontier.nearest(core, course.measures, labels, paths)? {
-        if let Some(pin) = lowest_pin(core, course, places, labels, gate) {
+    if let Some(gate) = frontier.nearest(core, course.measures(), labels, paths)? {
+        if let Some(pin) = lowest_pin(core, course, labels, gate) {
             if is_lower(core, pin.signal, &decided) {
                 return Ok(Some(pin));
             }
@@ -269,7 +334,7 @@ pub(crate) fn objective(
     let Some(gate) = decided else {
         return Ok(None);
     };
-    Ok(into_gate(core, course, places, labels, gate))
+    Ok(into_gate(core, course, labels, gate))
 }
 
 /// Whether the backtrace ends at a signal: at a head line, an input or a cell, and at the first fanout stem where it is to.
@@ -287,20 +352,20 @@ fn ends(roled: &RoledCase, labels: &PairSim, id: SignalId, stop: Stop) -> bool
 /// Where an objective leads.
 pub(crate) fn trace_from(
     roled: &RoledCase,
-    course: &Course,
-    places: &mut Places,
+    course: &mut Course,
     labels: &PairSim,
     objective: Aim,
 ) -> Option<Aim>
     requires same { labels.now.netlist ≡ roled.now.case.core.now }
     requires not_blocked { IsNotBlocked labels.now }
 {
+    let stop = course.stop();
     let mut aim = objective;
     for _step in 0..signal_count(roled.case.core) {
-        if ends(roled, labels, aim.signal, course.stop) {
+        if ends(roled, labels, aim.signal, stop) {
             return Some(aim);
         }
-        aim = into_gate(roled.case.core, course, places, labels, aim)?;
+        aim = into_gate(roled.case.core, course, labels, aim)?;
     }
     None
 }

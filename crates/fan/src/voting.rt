@@ -8,8 +8,8 @@ use crate::guides::{Stop, has_head};
 use crate::tracing::{Course, Pick, passing_bit, picked};
 use crate::wants::{Votes, Wants, turned, votes_for};
 use decisions::{
-    Aim, Places, count_pins, excitation, gate_of, is_inverting, is_own_unknown, is_unknown,
-    may_differ, readers, signal_count,
+    Aim, count_pins, excitation, gate_of, is_inverting, is_own_unknown, is_unknown, may_differ,
+    readers, signal_count,
 };
 use netlist::{Core, Kind, SignalId};
 use pair_sim::PairSim;
@@ -52,8 +52,7 @@ fn want_each(
 /// wanted too: a fanout stem among them may be nearer than the one that is wanted.
 fn want_pins(
     core: &Core,
-    course: &Course,
-    places: &mut Places,
+    course: &mut Course,
     labels: &PairSim,
     wants: &mut Wants,
     gate: SignalId,
@@ -66,22 +65,14 @@ fn want_pins(
     let Some((_, pins)) = gate_of(core, gate) else {
         return Ok(());
     };
-    if all > 0 || matches!(course.stop, Stop::Stems) {
-        let left = places.left(core, labels, course.orders, gate, pins);
+    if all > 0 || matches!(course.stop(), Stop::Stems) {
+        let left = course.left(core, labels, gate, pins);
         want_each(core, labels, wants, left, votes_for(bit, all))?;
     }
     if some == 0 {
         return Ok(());
     }
-    match picked(
-        core,
-        course,
-        places,
-        labels,
-        gate,
-        pins,
-        Pick::Easiest(!bit),
-    ) {
+    match picked(core, course, labels, gate, pins, Pick::Easiest(!bit)) {
         None => Ok(()),
         Some(pin) => want(core, labels, wants, pin, votes_for(!bit, some)),
     }
@@ -113,8 +104,7 @@ fn want_parity(
 /// What is wanted of a gate is wanted of its pins.
 fn spread(
     core: &Core,
-    course: &Course,
-    places: &mut Places,
+    course: &mut Course,
     labels: &PairSim,
     wants: &mut Wants,
     gate: SignalId,
@@ -129,12 +119,12 @@ fn spread(
     match kind {
         Kind::And | Kind::Nand => {
             want_pins(
-                core, course, places, labels, wants, gate, true, inner.one, inner.zero,
+                core, course, labels, wants, gate, true, inner.one, inner.zero,
             )
         }
         Kind::Or | Kind::Nor => {
             want_pins(
-                core, course, places, labels, wants, gate, false, inner.zero, inner.one,
+                core, course, labels, wants, gate, false, inner.zero, inner.one,
             )
         }
         Kind::Xor | Kind::Xnor => want_parity(core, course, labels, wants, pins, inner),
@@ -146,8 +136,7 @@ fn spread(
 /// The effect should go through a gate.
 pub(crate) fn want_through(
     core: &Core,
-    course: &Course,
-    places: &mut Places,
+    course: &mut Course,
     labels: &PairSim,
     wants: &mut Wants,
     gate: SignalId,
@@ -157,7 +146,7 @@ pub(crate) fn want_through(
     let Some((kind, pins)) = gate_of(core, gate) else {
         return Ok(());
     };
-    for pin in places.left(core, labels, course.orders, gate, pins) {
+    for pin in course.left(core, labels, gate, pins) {
         let bit = passing_bit(course, kind, *pin);
         want(core, labels, wants, *pin, votes_for(bit, 1))?;
     }
@@ -167,8 +156,7 @@ pub(crate) fn want_through(
 /// The decided bits of gates that their pins don't make are wanted.
 pub(crate) fn want_decided(
     roled: &RoledCase,
-    course: &Course,
-    places: &mut Places,
+    course: &mut Course,
     labels: &PairSim,
     wants: &mut Wants,
     stack: &[Side],
@@ -180,7 +168,7 @@ pub(crate) fn want_decided(
     for side in stack {
         if !has_head(roled.roles, side.signal) && is_own_unknown(core, labels, side.signal) {
             let votes = votes_for(side.bit, 1);
-            spread(core, course, places, labels, wants, side.signal, votes)?;
+            spread(core, course, labels, wants, side.signal, votes)?;
         }
     }
     Ok(())
@@ -244,8 +232,7 @@ fn is_end(roled: &RoledCase, id: SignalId) -> bool {
 /// Goes back from what is wanted: the first fanout stem at which it stops, or the end that is wanted most.
 pub(crate) fn trace_back(
     roled: &RoledCase,
-    course: &Course,
-    places: &mut Places,
+    course: &mut Course,
     labels: &PairSim,
     wants: &mut Wants,
 ) -> Result<Option<Aim>, AllocError>
@@ -253,6 +240,7 @@ pub(crate) fn trace_back(
     requires not_blocked { IsNotBlocked labels.now }
 {
     let core = roled.case.core;
+    let stop = course.stop();
     let mut best = Best { aim: None, most: 0 };
     for _step in 0..signal_count(core) {
         let Some(id) = wants.next() else {
@@ -265,10 +253,10 @@ pub(crate) fn trace_back(
         };
         if is_end(roled, id) {
             best = best.or(aim, votes);
-        } else if stops(core, labels, id, votes, course.stop) {
+        } else if stops(core, labels, id, votes, stop) {
             return Ok(Some(aim));
         } else {
-            spread(core, course, places, labels, wants, id, votes)?;
+            spread(core, course, labels, wants, id, votes)?;
         }
     }
     Ok(best.aim)

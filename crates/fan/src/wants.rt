@@ -1,8 +1,11 @@
 //! How often each bit is wanted of signals, and which of them wait for the backtrace to come to them.
+ghost use Rattle.std.specs.Prelude.{⊤};
+
 use decisions::{place_of, signal_count};
 use netlist::{Core, SignalId};
 use std::alloc::{AllocError, Global};
 use std::collections::BinaryHeap;
+use std::marker::Model;
 
 /// How often 0 and 1 are wanted of a signal.
 #[derive(Clone, Copy, Drop)]
@@ -24,6 +27,13 @@ pub(crate) struct Wants {
     wanted: Vec<Wanted>,
     round: u32,
     waiting: BinaryHeap<u64>,
+}
+
+// Contracts see nothing of it.
+impl Model for Wants {
+    ghost Value = { ⊤ };
+
+    ghost view = { λ _. tt };
 }
 
 /// Before which others a signal waits: gates from the last to the first in the order of evaluation, then inputs and cells.

@@ -232,6 +232,20 @@ fn told_marks(alloc: Global, last: &[Option<(u32, Point)>]) -> Result<Vec<bool>,
     Ok(marks)
 }
 
+/// The faults of which nothing was told.
+fn others_of(
+    alloc: Global,
+    faults: &[Fault],
+    last: &[Option<(u32, Point)>],
+) -> Result<Vec<Fault>, AllocError>
+    requires { length last.now ≡ length faults.now }
+    ensures exactly { IfOk result (λ v. v.items ≡ unmarked (map is_told last.now) faults.now) }
+    ensures lines { IfOk result (λ v. (n : Equations) → All (λ (f : FaultOf). IsLineOf n f.line) faults.now → All (λ (f : FaultOf). IsLineOf n f.line) v.items) }
+{
+    let marks = told_marks(alloc, last)?;
+    unmarked(alloc, faults, &marks)
+}
+
 /// What patterns tell of the faults of which nothing was told: other bits may detect such a one.
 fn tells_of_others<R: Threads + Sync>(
     rt: &R,
@@ -245,19 +259,13 @@ fn tells_of_others<R: Threads + Sync>(
     requires few { length patterns.now ≤ aim.now.most }
     ensures { IfOk result (λ v. AllZip (LastDetected aim.now.core.now patterns.now) (unmarked (map is_told last.now) aim.now.faults.now) v.items) }
 {
-    let marks = told_marks(aim.alloc, last)?;
-    let others = unmarked(aim.alloc, aim.faults, &marks)?;
+    let alloc = aim.alloc;
+    let others = others_of(alloc, aim.faults, last)?;
     if others.is_empty() {
-        return Ok(Vec::new(aim.alloc));
+        return Ok(Vec::new(alloc));
     }
-    last_tells_beside(
-        rt,
-        aim.alloc,
-        aim.core,
-        &others,
-        patterns,
-        aim.rounds.workers,
-    )
+    let workers = aim.rounds.workers;
+    last_tells_beside(rt, alloc, aim.core, &others, patterns, workers)
 }
 
 /// Places of what comes next of what is told.

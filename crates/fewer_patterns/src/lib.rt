@@ -29,6 +29,7 @@ mod rounds;
 mod rows;
 mod sorting;
 mod tracing;
+mod ways;
 mod worlds;
 
 pub use fronts::ToldPatterns;

@@ -54,10 +54,30 @@ struct Stage {
     to: u32,
 }
 
+/// What the faults of these slots need of the pattern that is looked at.
+fn need_slots(
+    whole: &Whole,
+    tracing: &mut Tracing,
+    load: &Load<'_>,
+    first: u32,
+    end: u32,
+) -> Result<(), AllocError> {
+    let core = load.core;
+    let faults = load.faults;
+    let by_place = load.by_place;
+    for slot in first..end {
+        if let Some(fault) = faults.get(by_place.number(slot) as usize) {
+            tracing.need(whole, core, fault.line)?;
+        }
+    }
+    Ok(())
+}
+
 /// What some of the faults that are left to the pattern at a place need of it, which stands in this lane of those that are traced. Where it needs
 /// nearly all of its bits already it is taken whole, and no more faults are looked at.
 fn need_some(
-    tracing: &mut Tracing<'_>,
+    whole: &Whole,
+    tracing: &mut Tracing,
     load: &Load<'_>,
     place: u32,
     lane: u32,
@@ -73,25 +93,27 @@ fn need_some(
         tracing.take_whole(load.core);
         return Ok(());
     }
-    for slot in first..end.min(start.saturating_add(stage.to)) {
-        if let Some(fault) = load.faults.get(load.by_place.number(slot) as usize) {
-            tracing.need(load.core, fault.line)?;
-        }
-    }
-    Ok(())
+    need_slots(
+        whole,
+        tracing,
+        load,
+        first,
+        end.min(start.saturating_add(stage.to)),
+    )
 }
 
 /// The same of the patterns of these lanes; and what that rests on.
 fn need_stage(
-    tracing: &mut Tracing<'_>,
+    whole: &Whole,
+    tracing: &mut Tracing,
     load: &Load<'_>,
     lanes: Lanes,
     stage: Stage,
 ) -> Result<(), AllocError> {
     for lane in 0..lanes.count {
-        need_some(tracing, load, lanes.place(lane), lane, stage)?;
+        need_some(whole, tracing, load, lanes.place(lane), lane, stage)?;
     }
-    tracing.trace();
+    tracing.trace(whole);
     Ok(())
 }
 
@@ -106,15 +128,20 @@ fn most_left(by_place: &Sorted, lanes: Lanes) -> u32 {
 }
 
 /// What the faults need that are left to the patterns of these lanes: a few at first, and four times as many each time.
-fn need_lanes(tracing: &mut Tracing<'_>, load: &Load<'_>, lanes: Lanes) -> Result<(), AllocError> {
-    tracing.begin(load.core, load.patterns, lanes)?;
+fn need_lanes(
+    whole: &Whole,
+    tracing: &mut Tracing,
+    load: &Load<'_>,
+    lanes: Lanes,
+) -> Result<(), AllocError> {
+    tracing.begin(whole, load.core, load.patterns, lanes)?;
     let most = most_left(load.by_place, lanes);
     let mut stage = Stage { from: 0, to: 8 };
     for _stage in 0..16 {
         if stage.from >= most {
             break;
         }
-        need_stage(tracing, load, lanes, stage)?;
+        need_stage(whole, tracing, load, lanes, stage)?;
         stage = Stage {
             from: stage.to,
             to: stage.to.saturating_mul(4),
@@ -124,7 +151,7 @@ fn need_lanes(tracing: &mut Tracing<'_>, load: &Load<'_>, lanes: Lanes) -> Resul
 }
 
 /// Sets the bits of signals that are needed, from a place of the row on.
-fn put_needed(rows: &mut Rows, row: u32, tracing: &Tracing<'_>, signals: &[SignalId], from: u32) {
+fn put_needed(rows: &mut Rows, row: u32, tracing: &Tracing, signals: &[SignalId], from: u32) {
     for (k, signal) in signals.iter().enumerate() {
         if tracing.is_needed(signal.0) {
             let place = from.wrapping_add(number_of(k));
@@ -156,7 +183,7 @@ fn put_held(rows: &mut Rows, row: u32, core: &Core, holds: &Holds)
 }
 
 /// A row more, of what was needed.
-fn push_needed(rows: &mut Rows, tracing: &Tracing<'_>, core: &Core) -> Result<(), AllocError> {
+fn push_needed(rows: &mut Rows, tracing: &Tracing, core: &Core) -> Result<(), AllocError> {
     let row = rows.count();
     rows.push()?;
     let inputs = core.netlist().inputs();
@@ -169,7 +196,7 @@ fn push_needed(rows: &mut Rows, tracing: &Tracing<'_>, core: &Core) -> Result<()
 /// A row for each pattern of these lanes to which a fault is left.
 fn push_lanes(
     rows: &mut Rows,
-    tracing: &mut Tracing<'_>,
+    tracing: &mut Tracing,
     load: &Load<'_>,
     lanes: Lanes,
 ) -> Result<(), AllocError> {
@@ -184,8 +211,8 @@ fn push_lanes(
 
 /// A worker's room for tracing, the rows of its own patterns, and whether memory was refused to it.
 #[derive(Drop)]
-pub(crate) struct Part<'a> {
-    tracing: Tracing<'a>,
+pub(crate) struct Part {
+    tracing: Tracing,
     rows: Rows,
     is_refused: bool,
 }
@@ -195,20 +222,26 @@ pub(crate) fn sharing(workers: u32, patterns: usize) -> u32 {
     workers.min(number_of(patterns.div_ceil(64)))
 }
 
+/// The room of a worker.
+fn part_of(alloc: Global, whole: &Whole, places: u32) -> Result<Part, AllocError> {
+    let tracing = Tracing::new(alloc, whole)?;
+    Ok(Part {
+        tracing,
+        rows: Rows::new(alloc, places),
+        is_refused: false,
+    })
+}
+
 /// The room of so many workers, for patterns of so many places.
-pub(crate) fn parts_of<'a>(
+pub(crate) fn parts_of(
     alloc: Global,
-    whole: &'a Whole,
+    whole: &Whole,
     places: u32,
     workers: u32,
-) -> Result<Vec<Part<'a>>, AllocError> {
+) -> Result<Vec<Part>, AllocError> {
     let mut parts = Vec::new(alloc);
     for _worker in 0..workers {
-        parts.push(Part {
-            tracing: Tracing::new(alloc, whole)?,
-            rows: Rows::new(alloc, places),
-            is_refused: false,
-        })?;
+        parts.push(part_of(alloc, whole, places)?)?;
     }
     Ok(parts)
 }
@@ -224,12 +257,26 @@ fn lanes_of(patterns: usize, number: u32, step: u32, word: u32) -> Lanes {
     }
 }
 
+/// Rows for the patterns of these lanes.
+fn relax_word(
+    whole: &Whole,
+    load: &Load<'_>,
+    lanes: Lanes,
+    tracing: &mut Tracing,
+    rows: &mut Rows,
+) -> Result<(), AllocError> {
+    need_lanes(whole, tracing, load, lanes)?;
+    push_lanes(rows, tracing, load, lanes)
+}
+
 /// Rows for the patterns of a part.
 fn relax_lanes(
+    whole: &Whole,
     load: &Load<'_>,
     number: u32,
     step: u32,
-    part: &mut Part<'_>,
+    tracing: &mut Tracing,
+    rows: &mut Rows,
 ) -> Result<(), AllocError> {
     let count = load.patterns.len();
     for word in 0..number_of(count) {
@@ -237,30 +284,40 @@ fn relax_lanes(
         if lanes.count == 0 {
             break;
         }
-        need_lanes(&mut part.tracing, load, lanes)?;
-        push_lanes(&mut part.rows, &mut part.tracing, load, lanes)?;
+        relax_word(whole, load, lanes, tracing, rows)?;
     }
     Ok(())
 }
 
 /// The part of so many with this number: every so-many-th pattern is its own.
-fn relax_part(load: &Load<'_>, number: u32, step: u32, part: &mut Part<'_>) {
+fn relax_part(whole: &Whole, load: &Load<'_>, number: u32, step: u32, part: &mut Part) {
     part.rows.clear();
-    part.is_refused = relax_lanes(load, number, step, part).is_err();
+    let relaxed = relax_lanes(whole, load, number, step, &mut part.tracing, &mut part.rows);
+    part.is_refused = relaxed.is_err();
+}
+
+/// The first part does all.
+fn relax_alone(whole: &Whole, load: &Load<'_>, parts: &mut [Part]) {
+    if let Some(part) = parts.first_mut() {
+        relax_part(whole, load, 0, 1, part);
+    }
 }
 
 /// Each part does its own, beside the others. Of few faults the first does all.
-fn relax_parts<R: Threads + Sync>(rt: &R, load: &Load<'_>, parts: &mut [Part<'_>]) -> u32 {
-    if parts.len() < 2 || load.faults.len() < FEWEST {
-        if let Some(part) = parts.first_mut() {
-            relax_part(load, 0, 1, part);
-        }
+fn relax_parts<R: Threads + Sync>(
+    rt: &R,
+    whole: &Whole,
+    load: &Load<'_>,
+    parts: &mut Vec<Part>,
+) -> u32 {
+    let workers = parts.len();
+    if workers < 2 || load.faults.len() < FEWEST {
+        relax_alone(whole, load, parts);
         return 1;
     }
-    let workers = parts.len();
     let step = number_of(workers);
-    let work = move |number: usize, part: &mut Part<'_>| {
-        relax_part(load, number_of(number), step, part)
+    let work = move |number: usize, part: &mut Part| {
+        relax_part(whole, load, number_of(number), step, part)
     };
     thread::for_each_mut(rt, parts, workers, &work);
     step
@@ -269,7 +326,7 @@ fn relax_parts<R: Threads + Sync>(rt: &R, load: &Load<'_>, parts: &mut [Part<'_>
 /// Takes the next row of a part.
 fn take_row(
     rows: &mut Rows,
-    parts: &[Part<'_>],
+    parts: &[Part],
     nexts: &mut Vec<u32>,
     number: u32,
 ) -> Result<(), AllocError> {
@@ -285,17 +342,13 @@ fn take_row(
 }
 
 /// The rows of all parts, in the order of the patterns.
-fn gathered(
-    aim: &Aim<'_>,
-    load: &Load<'_>,
-    parts: &[Part<'_>],
-    step: u32,
-) -> Result<Rows, AllocError> {
+fn gathered(aim: &Aim<'_>, load: &Load<'_>, parts: &[Part], step: u32) -> Result<Rows, AllocError> {
+    let by_place = load.by_place;
     let mut nexts = Vec::new(aim.alloc);
     fill(&mut nexts, step, 0)?;
     let mut rows = Rows::new(aim.alloc, aim.places());
     for place in 0..number_of(load.patterns.len()) {
-        if load.by_place.has_key(place) {
+        if by_place.has_key(place) {
             take_row(&mut rows, parts, &mut nexts, place % step.max(1))?;
         }
     }
@@ -303,29 +356,46 @@ fn gathered(
 }
 
 /// Whether memory was refused to a part.
-fn is_refused(parts: &[Part<'_>]) -> bool {
-    parts.iter().any(|part| part.is_refused)
+fn is_refused(parts: &[Part]) -> bool {
+    for part in parts {
+        if part.is_refused {
+            return true;
+        }
+    }
+    false
 }
 
 /// The bits that are needed, gathered in this room.
 fn relaxed_in<R: Threads + Sync>(
     rt: &R,
     aim: &Aim<'_>,
+    whole: &Whole,
     load: &Load<'_>,
-    parts: &mut [Part<'_>],
+    parts: &mut Vec<Part>,
 ) -> Result<Rows, NoMemory> {
-    let step = relax_parts(rt, load, parts);
-    if is_refused(parts) {
+    let step = relax_parts(rt, whole, load, parts);
+    let done = parts.as_slice();
+    if is_refused(done) {
         return Err(NoMemory);
     }
-    Ok(gathered(aim, load, parts, step)?)
+    Ok(gathered(aim, load, done, step)?)
+}
+
+/// The bits at which inputs are held, in each row.
+fn put_held_in(rows: &mut Rows, core: &Core, holds: &Holds)
+    requires { AreHoldsOf core.now holds.now }
+{
+    for row in 0..rows.count() {
+        put_held(rows, row, core, holds);
+    }
 }
 
 /// A row for each pattern to which a fault is left: the bits that such faults need, and those that are held.
 pub(crate) fn relaxed<R: Threads + Sync>(
     rt: &R,
     aim: &Aim<'_>,
-    parts: &mut [Part<'_>],
+    whole: &Whole,
+    parts: &mut Vec<Part>,
     from: &Made,
 ) -> Result<Rows, NoMemory>
     requires { IsAim aim.now }
@@ -337,9 +407,7 @@ pub(crate) fn relaxed<R: Threads + Sync>(
         faults: aim.faults,
         by_place: &by_place,
     };
-    let mut rows = relaxed_in(rt, aim, &load, parts)?;
-    for row in 0..rows.count() {
-        put_held(&mut rows, row, aim.core, aim.holds);
-    }
+    let mut rows = relaxed_in(rt, aim, whole, &load, parts)?;
+    put_held_in(&mut rows, aim.core, aim.holds);
     Ok(rows)
 }

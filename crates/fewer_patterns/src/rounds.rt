@@ -8,13 +8,15 @@ ghost use Rattle.cubes.specs.Cubes.{IsPatternOf};
 ghost use Rattle.word_sim.specs.Hits.{LastDetected};
 ghost use Rattle.fewer_patterns.specs.Fewer.{IsNoWorse};
 ghost use Rattle.fewer_patterns.specs.declared.aims.Aim.{Aim as AimOf};
-ghost use Rattle.fewer_patterns.specs.inner.Aims.{IsAim, IsEnough};
-ghost use Rattle.fewer_patterns.specs.inner.Enough.{AllTold};
+ghost use Rattle.fewer_patterns.specs.inner.Aims.{IsAim, IsEnough, IsEnoughFor};
+ghost use Rattle.fewer_patterns.specs.inner.Enough.{AllTold, AreEnough};
 
 use crate::aims::Aim;
 use crate::arranging::order_of;
 use crate::filling::filled;
-use crate::fronts::{Front, Made, ToldPatterns, is_told, needed, parted, tail_of, with_tail};
+use crate::fronts::{
+    Front, LastTold, Made, ToldPatterns, is_told, needed, parted, tail_of, with_tail,
+};
 use crate::merging::merged;
 use crate::relaxing::{Part, parts_of, relaxed, sharing};
 use crate::rows::Rows;
@@ -61,7 +63,37 @@ fn are_told(last: &[Option<(u32, Point)>]) -> bool
     true
 }
 
-/// The patterns, where a simulation says that there are no more of them than there may be and that they detect each fault.
+/// Where patterns last detect each fault, and to how many of them one is left.
+#[derive(Drop)]
+struct Told {
+    last: LastTold,
+    needed: u32,
+}
+
+/// What a simulation tells of patterns: that there are no more of them than there may be and that they detect each fault.
+fn told_by<R: Threads + Sync>(
+    rt: &R,
+    aim: &Aim<'_>,
+    tried: &[Pattern],
+) -> Result<Option<Told>, NoMemory>
+    requires { IsAim aim.now }
+    ensures { IfOk result (λ found. IfSome found (λ told. AreEnough aim.now.core.now aim.now.holds.now aim.now.faults.now aim.now.most tried.now told.last.items)) }
+{
+    let alloc = aim.alloc;
+    let core = aim.core;
+    let holds = aim.holds;
+    if tried.len() > aim.most || !are_patterns(core.netlist(), holds, tried) {
+        return Ok(None);
+    }
+    let last = last_tells_beside(rt, alloc, core, aim.faults, tried, aim.rounds.workers)?;
+    if !are_told(&last) {
+        return Ok(None);
+    }
+    let needed = needed(alloc, number_of(tried.len()), &last)?;
+    Ok(Some(Told { last, needed }))
+}
+
+/// The patterns, where that is told of them.
 fn verified<R: Threads + Sync>(
     rt: &R,
     aim: &Aim<'_>,
@@ -70,20 +102,15 @@ fn verified<R: Threads + Sync>(
     requires { IsAim aim.now }
     ensures { IfOk result (λ found. IfSome found (IsEnough aim.now)) }
 {
-    if tried.len() > aim.most || !are_patterns(aim.core.netlist(), aim.holds, &tried) {
-        return Ok(None);
+    let found = told_by(rt, aim, &tried)?;
+    match found {
+        Some(told) => Ok(Some(Made {
+            patterns: tried,
+            last: told.last,
+            needed: told.needed,
+        })),
+        None => Ok(None),
     }
-    let workers = aim.rounds.workers;
-    let last = last_tells_beside(rt, aim.alloc, aim.core, aim.faults, &tried, workers)?;
-    if !are_told(&last) {
-        return Ok(None);
-    }
-    let needed = needed(aim.alloc, number_of(tried.len()), &last)?;
-    Ok(Some(Made {
-        patterns: tried,
-        last,
-        needed,
-    }))
 }
 
 /// The best patterns so far, other ones of which as many are needed, from which the next round goes on, and whether there is no use in one.
@@ -104,12 +131,21 @@ impl Course {
     }
 }
 
+/// What a round found, if anything, and whether there is no use in one more.
+#[derive(Drop)]
+struct Found {
+    made: Option<Made>,
+    is_over: bool,
+}
+
 /// After a round that found these: they are the best where fewer of them are needed.
-fn after(course: Course, found: Option<Made>, is_over: bool) -> Course
-    ensures { (aim : AimOf) → IsEnough aim course.best → IfSome found (IsEnough aim) → IsEnough aim result.best }
+fn after(course: Course, found: Found) -> Course
+    ensures { (aim : AimOf) → IsEnough aim course.best → IfSome found.made (IsEnough aim) → IsEnough aim result.best }
 {
-    let best = course.best;
-    match found {
+    let Course { best, other, .. } = course;
+    drop(other);
+    let is_over = found.is_over;
+    match found.made {
         Some(made) if made.needed < best.needed => Course {
             best: made,
             other: None,
@@ -140,28 +176,32 @@ fn refilled<N: Rng>(
     filled(aim.alloc, aim.core, &rows, &order, rng)
 }
 
-/// The patterns relaxed, merged and filled; and whether the first left them dense.
-fn tried_from<N: Rng, R: Threads + Sync>(
+/// What the patterns become that are relaxed, merged and filled, where they are verified. Where the first left them dense there is no use in one more.
+fn found_from<N: Rng, R: Threads + Sync>(
     rt: &R,
     aim: &Aim<'_>,
-    parts: &mut [Part<'_>],
+    whole: &Whole,
+    parts: &mut Vec<Part>,
     from: &Made,
     round: u32,
     rng: &mut N,
-) -> Result<(Vec<Pattern>, bool), NoMemory>
+) -> Result<Found, NoMemory>
     requires { IsAim aim.now }
+    ensures { IfOk result (λ found. IfSome found.made (IsEnough aim.now)) }
 {
-    let rows = relaxed(rt, aim, parts, from)?;
-    let is_dense = is_dense(&rows, aim.places());
+    let rows = relaxed(rt, aim, whole, parts, from)?;
+    let is_over = is_dense(&rows, aim.places());
     let tried = refilled(aim, &rows, round, rng)?;
-    Ok((tried, is_dense))
+    let made = verified(rt, aim, tried)?;
+    Ok(Found { made, is_over })
 }
 
 /// One round more.
 fn next_round<N: Rng, R: Threads + Sync>(
     rt: &R,
     aim: &Aim<'_>,
-    parts: &mut [Part<'_>],
+    whole: &Whole,
+    parts: &mut Vec<Part>,
     course: Course,
     round: u32,
     rng: &mut N,
@@ -170,35 +210,48 @@ fn next_round<N: Rng, R: Threads + Sync>(
     requires enough { IsEnough aim.now course.best }
     ensures { IfOk result (λ next. IsEnough aim.now next.best) }
 {
-    let (tried, is_dense) = tried_from(rt, aim, parts, course.from(), round, rng)?;
-    let found = verified(rt, aim, tried)?;
-    Ok(after(course, found, is_dense))
+    match found_from(rt, aim, whole, parts, course.from(), round, rng) {
+        Ok(found) => Ok(after(course, found)),
+        Err(refusal) => {
+            drop(course);
+            Err(refusal)
+        }
+    }
+}
+
+/// The best patterns.
+fn best_of(course: Course) -> Made
+    ensures { result ≡ course.best }
+{
+    course.best
 }
 
 /// The best patterns after all rounds, in this room.
 fn improved_in<R: Threads + Sync>(
     rt: &R,
     aim: &Aim<'_>,
-    parts: &mut [Part<'_>],
+    whole: &Whole,
+    parts: &mut Vec<Part>,
     first: Made,
 ) -> Result<Made, NoMemory>
     requires aim { IsAim aim.now }
     requires enough { IsEnough aim.now first }
     ensures { IfOk result (IsEnough aim.now) }
 {
-    let mut rng = Lcg64Xsh32::new(aim.rounds.seed, STREAM);
+    let Rounds { count, seed, .. } = aim.rounds;
+    let mut rng = Lcg64Xsh32::new(seed, STREAM);
     let mut course = Course {
         best: first,
         other: None,
         is_over: false,
     };
-    for round in 0..aim.rounds.count {
+    for round in 0..count {
         if course.is_over {
             break;
         }
-        course = next_round(rt, aim, parts, course, round, &mut rng)?;
+        course = next_round(rt, aim, whole, parts, course, round, &mut rng)?;
     }
-    Ok(course.best)
+    Ok(best_of(course))
 }
 
 /// The same over a netlist in flat arrays.
@@ -214,7 +267,7 @@ fn improved_over<R: Threads + Sync>(
 {
     let workers = sharing(aim.rounds.workers, aim.most);
     let mut parts = parts_of(aim.alloc, whole, aim.places(), workers)?;
-    let best = improved_in(rt, aim, &mut parts, first);
+    let best = improved_in(rt, aim, whole, &mut parts, first);
     drop(parts);
     best
 }
@@ -230,6 +283,31 @@ fn improved<R: Threads + Sync>(rt: &R, aim: &Aim<'_>, first: Made) -> Result<Mad
     let best = improved_over(rt, aim, &whole, first);
     drop(whole);
     best
+}
+
+/// The same of so many patterns in front, to which these faults are left.
+fn improved_front<R: Threads + Sync>(
+    rt: &R,
+    aim: &Aim<'_>,
+    left: &[Fault],
+    start: usize,
+    made: Made,
+) -> Result<Made, NoMemory>
+    requires aim { IsAim aim.now }
+    requires start { start ≤ aim.now.most }
+    requires lines { All (λ (f : FaultOf). IsLineOf aim.now.core.now f.line) left.now }
+    requires enough { IsEnoughFor aim.now left.now start made }
+    ensures { IfOk result (IsEnoughFor aim.now left.now start) }
+{
+    let narrow = Aim {
+        alloc: aim.alloc,
+        core: aim.core,
+        holds: aim.holds,
+        faults: left,
+        most: start,
+        rounds: aim.rounds,
+    };
+    improved(rt, &narrow, made)
 }
 
 /// Patterns of which as much is told, and no more of them: the best in front after all rounds, and the tail.
@@ -248,16 +326,9 @@ fn fewer_told<R: Threads + Sync>(
 {
     let start = tail_of(aim.alloc, patterns.len(), last)?;
     let Front { left, made, tail } = parted(aim.alloc, aim.faults, patterns, last, start)?;
-    let narrow = Aim {
-        alloc: aim.alloc,
-        core: aim.core,
-        holds: aim.holds,
-        faults: &left,
-        most: start,
-        rounds: aim.rounds,
-    };
-    let best = improved(rt, &narrow, made)?;
-    with_tail(rt, aim, start, last, best, tail)
+    let best = improved_front(rt, aim, &left, start, made);
+    drop(left);
+    with_tail(rt, aim, start, last, best?, tail)
 }
 
 /// Patterns that detect each of these faults that the given ones detect, and that are no more: after so many rounds. Those to which most faults are

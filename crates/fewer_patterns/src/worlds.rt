@@ -12,12 +12,18 @@ fn opposite_if(word: u64, is_opposite: bool) -> u64 {
     if is_opposite { !word } else { word }
 }
 
+/// Under which patterns a signal has the bit.
+#[inline(always)]
+pub(crate) fn bit_at(words: &[u64], signal: u32, bit: u8) -> u64 {
+    opposite_if(word_at(words, signal), bit == 0)
+}
+
 /// Under which patterns some pin of a gate has the bit.
-fn some_pin_at(graph: &Graph, words: &[u64], gate: u32, bit: u8) -> u64 {
+pub(crate) fn some_pin_at(graph: &Graph, words: &[u64], gate: u32, bit: u8) -> u64 {
     let (start, end) = graph.pins_of(gate);
     let mut some: u64 = 0;
     for slot in start..end {
-        some |= opposite_if(word_at(words, graph.pin(slot)), bit == 0);
+        some |= bit_at(words, graph.pin(slot), bit);
     }
     some
 }
@@ -55,11 +61,79 @@ impl Lanes {
     }
 }
 
+/// The pattern in a lane, as a word.
+#[inline(always)]
+fn mask_of(lane: u32) -> u64 {
+    1u64 << (lane % 64)
+}
+
+/// The bits of a pattern for some signals.
+fn take(words: &mut Vec<u64>, mask: u64, signals: &[SignalId], bits: &[bool]) {
+    for (signal, bit) in signals.iter().zip(bits.iter()) {
+        if *bit {
+            let word = word_at(words, signal.0) | mask;
+            put_word(words, signal.0, word);
+        }
+    }
+}
+
+/// The bits of the patterns of these lanes.
+fn take_all(words: &mut Vec<u64>, core: &Core, patterns: &[Pattern], lanes: Lanes) {
+    for lane in 0..lanes.count {
+        if let Some(pattern) = patterns.get(lanes.place(lane) as usize) {
+            let mask = mask_of(lane);
+            take(words, mask, core.netlist().inputs(), pattern.inputs());
+            take(words, mask, core.netlist().cells(), pattern.cells());
+        }
+    }
+}
+
+/// Settles what gates give.
+fn settle_gates(whole: &Whole, words: &mut Vec<u64>) {
+    for place in 1..whole.place_count() {
+        let gate = whole.gate_at(place);
+        let word = word_of(&whole.graph, words, gate);
+        put_word(words, gate, word);
+    }
+}
+
+/// Settles the netlist under the patterns of these lanes.
+pub(crate) fn settle(
+    whole: &Whole,
+    words: &mut Vec<u64>,
+    core: &Core,
+    patterns: &[Pattern],
+    lanes: Lanes,
+) -> Result<(), AllocError> {
+    clear_words(words, whole.count())?;
+    take_all(words, core, patterns, lanes);
+    settle_gates(whole, words);
+    Ok(())
+}
+
+/// Takes the marks away from these signals, and forgets them.
+pub(crate) fn unmark(marks: &mut Vec<u8>, signals: &mut Vec<u32>) {
+    for signal in signals.iter() {
+        put_byte(marks, *signal, 0);
+    }
+    signals.clear();
+}
+
+/// The gates that read a signal wait, where they come to an observed one.
+fn wake_readers(whole: &Whole, waiting: &mut Waiting, signal: u32) {
+    let (start, end) = whole.graph.readers_of(signal);
+    for slot in start..end {
+        let gate = whole.graph.reader(slot);
+        if whole.comes_to_point(gate) {
+            waiting.add(whole.place(gate));
+        }
+    }
+}
+
 /// By signal its bits under up to 64 patterns, of which one is looked at.
 #[derive(Drop)]
-pub(crate) struct Worlds<'a> {
-    pub whole: &'a Whole,
-    words: Vec<u64>,
+pub(crate) struct Worlds {
+    pub words: Vec<u64>,
     /// The place of the pattern that is looked at.
     lane: u32,
     /// By signal, 1 where its bit differs under this pattern from what it is with a bit turned; and the signals that differ.
@@ -69,14 +143,14 @@ pub(crate) struct Worlds<'a> {
     pub waiting: Waiting,
 }
 
-impl<'a> Worlds<'a> {
-    pub(crate) fn new(alloc: Global, whole: &'a Whole) -> Result<Worlds<'a>, AllocError> {
+impl Worlds {
+    /// For a netlist.
+    pub(crate) fn new(alloc: Global, whole: &Whole) -> Result<Worlds, AllocError> {
         let mut waiting = Waiting::new(alloc);
         waiting.begin(whole.place_count())?;
         let mut turned = Vec::new(alloc);
         fill_bytes(&mut turned, whole.count(), 0)?;
         Ok(Worlds {
-            whole,
             words: Vec::new(alloc),
             lane: 0,
             turned,
@@ -93,7 +167,7 @@ impl<'a> Worlds<'a> {
     /// The pattern that is looked at, as a word.
     #[inline(always)]
     pub(crate) fn mask(&self) -> u64 {
-        1u64 << (self.lane % 64)
+        mask_of(self.lane)
     }
 
     #[inline(always)]
@@ -112,135 +186,71 @@ impl<'a> Worlds<'a> {
         byte_at(&self.turned, signal) != 0
     }
 
-    /// Under which patterns the signal has the bit.
-    #[inline(always)]
-    pub(crate) fn at(&self, signal: u32, bit: u8) -> u64 {
-        opposite_if(word_at(&self.words, signal), bit == 0)
-    }
-
-    /// Under which patterns some pin of a gate has the bit.
-    pub(crate) fn some_pin_at(&self, gate: u32, bit: u8) -> u64 {
-        some_pin_at(&self.whole.graph, &self.words, gate, bit)
-    }
-
-    /// The bits of a pattern for some signals.
-    fn take(&mut self, signals: &[SignalId], bits: &[bool]) {
-        let mask = self.mask();
-        for (signal, bit) in signals.iter().zip(bits.iter()) {
-            if *bit {
-                let word = word_at(&self.words, signal.0) | mask;
-                put_word(&mut self.words, signal.0, word);
-            }
-        }
-    }
-
-    fn take_all(&mut self, core: &Core, patterns: &[Pattern], lanes: Lanes) {
-        for lane in 0..lanes.count {
-            if let Some(pattern) = patterns.get(lanes.place(lane) as usize) {
-                self.look_at(lane);
-                self.take(core.netlist().inputs(), pattern.inputs());
-                self.take(core.netlist().cells(), pattern.cells());
-            }
-        }
-    }
-
-    /// Settles the netlist under the patterns of these lanes.
-    pub(crate) fn settle(
-        &mut self,
-        core: &Core,
-        patterns: &[Pattern],
-        lanes: Lanes,
-    ) -> Result<(), AllocError> {
-        clear_words(&mut self.words, self.whole.count())?;
-        self.take_all(core, patterns, lanes);
-        for place in 1..self.whole.place_count() {
-            let gate = self.whole.gate_at(place);
-            let word = word_of(&self.whole.graph, &self.words, gate);
-            put_word(&mut self.words, gate, word);
-        }
-        Ok(())
-    }
-
     /// Whether some pin of a gate has the bit, with what is turned.
-    fn has_faulty_pin(&self, gate: u32, bit: u8) -> bool {
-        let (start, end) = self.whole.graph.pins_of(gate);
+    fn has_faulty_pin(&self, graph: &Graph, gate: u32, bit: u8) -> bool {
+        let (start, end) = graph.pins_of(gate);
         for slot in start..end {
-            if self.faulty(self.whole.graph.pin(slot)) == bit {
+            if self.faulty(graph.pin(slot)) == bit {
                 return true;
             }
         }
         false
     }
 
-    fn faulty_parity(&self, gate: u32) -> u8 {
-        let (start, end) = self.whole.graph.pins_of(gate);
+    fn faulty_parity(&self, graph: &Graph, gate: u32) -> u8 {
+        let (start, end) = graph.pins_of(gate);
         let mut odd = 0;
         for slot in start..end {
-            odd ^= self.faulty(self.whole.graph.pin(slot));
+            odd ^= self.faulty(graph.pin(slot));
         }
         odd
     }
 
     /// What a gate gives with what is turned.
-    fn faulty_of(&self, gate: u32) -> u8 {
-        match self.whole.graph.shape(gate) {
+    fn faulty_of(&self, graph: &Graph, gate: u32) -> u8 {
+        match graph.shape(gate) {
             Shape::Source => self.faulty(gate),
             Shape::Controlled { by, to } => {
-                if self.has_faulty_pin(gate, by) {
+                if self.has_faulty_pin(graph, gate, by) {
                     to
                 } else {
                     to ^ 1
                 }
             }
-            Shape::Parity { odd } => odd ^ self.faulty_parity(gate),
-        }
-    }
-
-    fn wake_readers(&mut self, signal: u32) {
-        let (start, end) = self.whole.graph.readers_of(signal);
-        for slot in start..end {
-            let gate = self.whole.graph.reader(slot);
-            if self.whole.comes_to_point(gate) {
-                self.waiting.add(self.whole.place(gate));
-            }
+            Shape::Parity { odd } => odd ^ self.faulty_parity(graph, gate),
         }
     }
 
     /// The signal's bit differs.
-    fn change(&mut self, signal: u32) -> Result<(), AllocError> {
+    fn change(&mut self, whole: &Whole, signal: u32) -> Result<(), AllocError> {
         put_byte(&mut self.turned, signal, 1);
         self.changed.push(signal)?;
-        self.wake_readers(signal);
+        wake_readers(whole, &mut self.waiting, signal);
         Ok(())
     }
 
     /// The gate, where it changes and is observed.
-    fn evaluate(&mut self, gate: u32) -> Result<u32, AllocError> {
-        if self.faulty_of(gate) == self.faulty(gate) {
+    fn evaluate(&mut self, whole: &Whole, gate: u32) -> Result<u32, AllocError> {
+        if self.faulty_of(&whole.graph, gate) == self.faulty(gate) {
             return Ok(NONE);
         }
-        self.change(gate)?;
-        Ok(if self.whole.is_observed(gate) {
-            gate
-        } else {
-            NONE
-        })
+        self.change(whole, gate)?;
+        Ok(if whole.is_observed(gate) { gate } else { NONE })
     }
 
     /// Turns the signal's bit and settles what changes, until that comes to an observed signal: this one. NONE where it comes to none.
-    pub(crate) fn turn(&mut self, signal: u32) -> Result<u32, AllocError> {
-        if self.whole.is_observed(signal) {
+    pub(crate) fn turn(&mut self, whole: &Whole, signal: u32) -> Result<u32, AllocError> {
+        if whole.is_observed(signal) {
             return Ok(signal);
         }
-        self.change(signal)?;
+        self.change(whole, signal)?;
         let mut seen = NONE;
-        for _place in 0..self.whole.place_count() {
+        for _place in 0..whole.place_count() {
             let Some(place) = self.waiting.take_first() else {
                 break;
             };
             if seen == NONE {
-                let gate = self.whole.gate_at(place);
-                seen = self.evaluate(gate)?;
+                seen = self.evaluate(whole, whole.gate_at(place))?;
             }
         }
         Ok(seen)
@@ -248,9 +258,6 @@ impl<'a> Worlds<'a> {
 
     /// Turns it back.
     pub(crate) fn forget(&mut self) {
-        for signal in &self.changed {
-            put_byte(&mut self.turned, *signal, 0);
-        }
-        self.changed.clear();
+        unmark(&mut self.turned, &mut self.changed);
     }
 }

@@ -25,7 +25,8 @@ use Rattle.grade.specs.Laws.{PatternsGrade}
 use Rattle.grade.specs.Patterns.{IsPatternGrade}
 use Rattle.grade.specs.declared.grade.Grade.{Grade}
 use Rattle.grade.specs.declared.grade.Grade.TheVariants.{Undetected}
-use Rattle.grade.specs.inner.ByPatterns.{AreGradedPart, AreGradedUpTo, AreTestCycles, IsAtPlace, IsElsewhere, IsGradedUpTo, IsOffset, IsOutside, IsThere}
+use Rattle.grade.specs.declared.by_patterns.Asked.{Asked}
+use Rattle.grade.specs.inner.ByPatterns.{AreAsked, AreGradedPart, AreGradedUpTo, AreTestCycles, IsAtPlace, IsElsewhere, IsGradedAt, IsGradedUpTo, IsOffset, IsOutside, IsThere}
 use Rattle.grade.specs.inner.Spotting.{IsSpotted}
 use Rattle.grade.specs.inner.Spread.{AreSiteGrades}
 use Rattle.grade.proofs.FirstGraded.{first_graded, never_graded}
@@ -33,102 +34,116 @@ use Rattle.grade.proofs.Lists.{drop_get, take_get}
 
 -- ---- a place
 
-pub none_within : (told : Option (ℕ × Point)) (start end : ℕ) → told ≡ None → IsElsewhere told start end
-none_within told start end e w is = let h : ◌≡◌ {A = Option (ℕ × Point)} None (Some w) = sym e ∙ is in cc
+pub none_within : (told : Option (ℕ × Point)) (start : ℕ) → told ≡ None → IsElsewhere told start
+none_within told start e w is = let h : ◌≡◌ {A = Option (ℕ × Point)} None (Some w) = sym e ∙ is in cc
 
-pub some_within : (told : Option (ℕ × Point)) (place : ℕ) (point : Point) (start end : ℕ) (r : Option ℕ) → told ≡ Some (place, point) → MatchOption r (IsOutside place start end) (IsOffset place start end)
-    → MatchOption r (IsElsewhere told start end) (IsThere told start end)
-some_within told place point start end None e h = λ w is.
+pub some_within : (told : Option (ℕ × Point)) (place : ℕ) (point : Point) (start : ℕ) (r : Option ℕ) → told ≡ Some (place, point) → MatchOption r (IsOutside place start) (IsOffset place start)
+    → MatchOption r (IsElsewhere told start) (IsThere told start)
+some_within told place point start None e h = λ w is.
     let same : ◌≡◌ {A = ℕ × Point} (place, point) w = same_Some (place, point) w (sym e ∙ is) in
-    subst (λ (u : ℕ × Point). (u.0 < start) ⊎ (end ≤ u.0)) same h
-some_within told place point start end (Some j) e h = record {
-  point = point;
-  is_told = e ∙ ap (λ k. Some (k, point)) h.0;
-  below = (let l = h.1 in let a = h.0 in omega (arith, l, a));
-}
+    subst (λ (u : ℕ × Point). (u.0 < start) ⊎ (start + 64 ≤ u.0)) same h
+some_within told place point start (Some j) e h = record { point = point; is_told = e ∙ ap (λ k. Some (k, point)) h.0; low = h.1 }
 
-module _ (n : Netlist) (chains : List (List ℕ)) (latest : List Pattern) where
-  -- ---- one line
+-- ---- one line
 
-  pub elsewhere_graded : (start end : ℕ) (f : Fault) (told : Option (ℕ × Point)) (grade : Grade) → IsElsewhere told start end → IsGradedUpTo n chains latest start f told grade
-      → IsGradedUpTo n chains latest end f told grade
-  elsewhere_graded start end f None grade away h = h
-  elsewhere_graded start end f (Some w) grade away h = λ l. elim (away w refl) [ inl less ↦ h less | inr high ↦ absurd (omega (arith, l, high)) ]
+module _ (n : Netlist) (chains : List (List ℕ)) (latest : List Pattern) (f : Fault) where
+  pub elsewhere_graded : (start : ℕ) (told : Option (ℕ × Point)) (grade : Grade) → IsElsewhere told start → IsGradedUpTo n chains latest start f told grade
+      → IsGradedUpTo n chains latest (start + 64) f told grade
+  elsewhere_graded start None grade away h = h
+  elsewhere_graded start (Some w) grade away h = λ l. elim (away w refl) [ inl less ↦ h less | inr high ↦ absurd (omega (arith, l, high)) ]
 
-  pub there_graded : (sound : IsSound n) (are : AreChainsOf n chains) (start end : ℕ) (f : Fault) (told : Option (ℕ × Point)) (values : List ℕ) (j key longest place : ℕ) (grade : Grade)
-      → IsThere told start end j → LastDetected n latest f told → AreGoodFor n (take (end - start) (drop start latest)) values → IsSpotted n chains values f j key → longest ≡ longest_of chains
-      → place ≡ length latest - 1 - (start + j) → IsAtPlace longest place key grade → IsGradedUpTo n chains latest end f told grade
-  there_graded sound are start end f told values j key longest place grade there last good spotted long at_place at =
-      let detected : LastDetected n latest f (Some (start + j, there.point)) = subst (LastDetected n latest f) there.is_told last in
-      let p = detected.here.pattern in
-      let below = there.below in
-      let has : slice_get (take (end - start) (drop start latest)) j ≡ Some p =
-      take_get (end - start) (drop start latest) j (omega (arith, below)) ∙ (drop_get start latest j ∙ detected.here.at) in
-      let right : IsPatternGrade n chains (reverse latest) f grade =
-      first_graded n chains sound are latest f (start + j) there.point detected p detected.here.at key (spotted (take (end - start) (drop start latest)) p good has) longest place grade long at_place at in
-      subst (λ t. IsGradedUpTo n chains latest end f t grade) (sym there.is_told) (λ _. right)
+  -- of fewer patterns
+  fewer : (m more : ℕ) (told : Option (ℕ × Point)) (grade : Grade) → m ≤ more → IsGradedUpTo n chains latest more f told grade → IsGradedUpTo n chains latest m f told grade
+  fewer m more None grade l h = h
+  fewer m more (Some w) grade l h = λ low. h (omega (arith, low, l))
 
-  -- ---- all lines
+  -- of no pattern
+  none_yet : (told : Option (ℕ × Point)) (grade : Grade) → grade ≡ Undetected → IsGradedUpTo n chains latest 0 f told grade
+  none_yet None grade e = e
+  none_yet (Some w) grade e = λ l. absurd (omega (arith, l))
 
-  module _ (faults : List Fault) (told : List (Option (ℕ × Point))) where
-    pub none_graded : (grades : List Grade) → grades ≡ replicate (length faults) Undetected → AreGradedUpTo n chains latest 0 faults told grades
-    none_graded grades e = record {
-      size = ap length e ∙ length-replicate (length faults) Undetected;
-      each = λ k f at.
-          let same : get_or grades k Undetected ≡ Undetected = ap (λ (gs : List Grade). get_or gs k Undetected) e ∙ get_or-replicate (length faults) k Undetected Undetected (slice_get_within faults k f at) in
-          at_once f (get_or told k None) (get_or grades k Undetected) same;
-    }
-      where
-        at_once : (f : Fault) (t : Option (ℕ × Point)) (grade : Grade) → grade ≡ Undetected → IsGradedUpTo n chains latest 0 f t grade
-        at_once f None grade e = e
-        at_once f (Some w) grade e = λ l. absurd (omega (arith, l))
+  -- of all patterns
+  one_graded : (sound : IsSound n) (are : AreChainsOf n chains) (told : Option (ℕ × Point)) (grade : Grade) → LastDetected n latest f told
+      → IsGradedUpTo n chains latest (length latest) f told grade → IsPatternGrade n chains (reverse latest) f grade
+  one_graded sound are None grade never e = subst (IsPatternGrade n chains (reverse latest) f) (sym e) (never_graded n chains sound are latest f never)
+  one_graded sound are (Some w) grade last h = h (slice_get_within latest w.0 last.here.pattern last.here.at)
 
-    module _ (start end : ℕ) where
-      pub part_begun : (grades : List Grade) → AreGradedUpTo n chains latest start faults told grades → AreGradedPart n chains latest start end 0 faults told grades
-      part_begun grades h = record { size = h.size; done = λ k f l e. absurd (omega (arith, l)); left = λ k f l e. h.each k f e }
+  -- the pattern that is told is one of the batch
+  module _ (start j : ℕ) (told : Option (ℕ × Point)) (there : IsThere told start j) (last : LastDetected n latest f told) where
+    detected : LastDetected n latest f (Some (start + j, there.point))
+    detected = subst (LastDetected n latest f) there.is_told last
 
-      pub part_more : (i : ℕ) (f : Fault) (grades made : List Grade) (grade : Grade) → slice_get faults i ≡ Some f → made ≡ set grades i grade
-          → IsGradedUpTo n chains latest end f (get_or told i None) grade → AreGradedPart n chains latest start end i faults told grades
-          → AreGradedPart n chains latest start end (i + 1) faults told made
-      part_more i f grades made grade at is new h =
-          let l = slice_get_within faults i f at in
-          let size = h.size in
-          let here : get_or made i Undetected ≡ grade = ap (λ (gs : List Grade). get_or gs i Undetected) is ∙ get_or-set_same grades i grade Undetected (omega (arith, l, size)) in
-          let other : (k : ℕ) → k ≢ i → get_or made k Undetected ≡ get_or grades k Undetected =
-          λ k ne. ap (λ (gs : List Grade). get_or gs k Undetected) is ∙ get_or-set_other grades i k grade Undetected ne in
-          record {
-            size = ap length is ∙ (length-set grades i grade ∙ h.size);
-            done = λ k g low e. elim (cases_eq k i) [
-              | inl same ↦
-                  let fault : f ≡ g = same_Some f g (sym at ∙ (ap (λ m. slice_get faults m) (sym same) ∙ e)) in
-                  subst (λ m. IsGradedUpTo n chains latest end g (get_or told m None) (get_or made m Undetected)) (sym same)
-                  (subst (λ (u : Grade). IsGradedUpTo n chains latest end g (get_or told i None) u) (sym here)
-                  (subst (λ (u : Fault). IsGradedUpTo n chains latest end u (get_or told i None) grade) fault new))
-              | inr ne ↦ subst (λ (u : Grade). IsGradedUpTo n chains latest end g (get_or told k None) u) (sym (other k ne)) (h.done k g (omega (arith, low, ne)) e)
-            ];
-            left = λ k g high e.
-                let ne : k ≢ i = λ same. omega (arith, high, same) in
-                subst (λ (u : Grade). IsGradedUpTo n chains latest start g (get_or told k None) u) (sym (other k ne)) (h.left k g (omega (arith, high)) e);
-          }
+    pub there_below : start + j < length latest
+    there_below = slice_get_within latest (start + j) detected.here.pattern detected.here.at
 
-      pub part_ended : (i : ℕ) (grades : List Grade) → length faults ≤ i → AreGradedPart n chains latest start end i faults told grades → AreGradedUpTo n chains latest end faults told grades
-      part_ended i grades l h = record { size = h.size; each = λ k f e. h.done k f (let w = slice_get_within faults k f e in omega (arith, w, l)) e }
+    pub there_graded : (sound : IsSound n) (are : AreChainsOf n chains) (values : List ℕ) (key longest place : ℕ) (grade : Grade) → AreGoodFor n (take 64 (drop start latest)) values
+        → IsSpotted n chains values f j key → longest ≡ longest_of chains → place ≡ length latest - 1 - (start + j) → IsAtPlace longest place key grade
+        → IsGradedUpTo n chains latest (start + 64) f told grade
+    there_graded sound are values key longest place grade good spotted long at_place at =
+        let p = detected.here.pattern in
+        let has : slice_get (take 64 (drop start latest)) j ≡ Some p = take_get 64 (drop start latest) j there.low ∙ (drop_get start latest j ∙ detected.here.at) in
+        let right : IsPatternGrade n chains (reverse latest) f grade =
+        first_graded n chains sound are latest f (start + j) there.point detected p detected.here.at key (spotted (take 64 (drop start latest)) p good has) longest place grade long at_place at in
+        subst (λ t. IsGradedUpTo n chains latest (start + 64) f t grade) (sym there.is_told) (λ _. right)
 
-    pub all_graded : (sound : IsSound n) (are : AreChainsOf n chains) (grades : List Grade) → AllZip (LastDetected n latest) faults told
-        → AreGradedUpTo n chains latest (length latest) faults told grades → AllZip (IsPatternGrade n chains (reverse latest)) faults grades
-    all_graded sound are grades last h =
-        zip_from (IsPatternGrade n chains (reverse latest)) faults grades (sym h.size) (λ i d e l.
-        let count = h.size in
-        let f = get_or faults i d in
-        let t = get_or told i None in
-        let here : slice_get faults i ≡ Some f = slice_get-get_or faults i d l in
-        let same : get_or grades i Undetected ≡ get_or grades i e = get_or_default grades i Undetected e (omega (arith, l, count)) in
-        one f t (get_or grades i e) (zip_at (LastDetected n latest) faults told i d None last l)
-        (subst (λ (u : Grade). IsGradedUpTo n chains latest (length latest) f t u) same (h.each i f here)))
-      where
-        one : (f : Fault) (t : Option (ℕ × Point)) (grade : Grade) → LastDetected n latest f t → IsGradedUpTo n chains latest (length latest) f t grade → IsPatternGrade n chains (reverse latest) f grade
-        one f None grade never e = subst (IsPatternGrade n chains (reverse latest) f) (sym e) (never_graded n chains sound are latest f never)
-        one f (Some w) grade last h = h (slice_get_within latest w.0 last.here.pattern last.here.at)
+-- ---- all lines
+
+module _ (a : Asked) where
+  -- what is told of the line at a place
+  pub told_at : AreAsked a → (k : ℕ) (f : Fault) → slice_get a.faults.now k ≡ Some f → LastDetected a.core.now a.latest.now f (get_or a.told.now k None)
+  told_at are k f at =
+      subst (λ u. LastDetected a.core.now a.latest.now u (get_or a.told.now k None)) (get_or_from_slice_get a.faults.now k f f at)
+      (zip_at (LastDetected a.core.now a.latest.now) a.faults.now a.told.now k f None are.told (slice_get_within a.faults.now k f at))
+
+  pub none_graded : (grades : List Grade) → grades ≡ replicate (length a.faults.now) Undetected → AreGradedUpTo a 0 grades
+  none_graded grades e = record {
+    size = ap length e ∙ length-replicate (length a.faults.now) Undetected;
+    each = λ k f at.
+        none_yet a.core.now a.timing.now.chains.now a.latest.now f (get_or a.told.now k None) (get_or grades k Undetected)
+        (ap (λ (gs : List Grade). get_or gs k Undetected) e ∙ get_or-replicate (length a.faults.now) k Undetected Undetected (slice_get_within a.faults.now k f at));
+  }
+
+  pub fewer_graded : (m more : ℕ) (grades : List Grade) → m ≤ more → AreGradedUpTo a more grades → AreGradedUpTo a m grades
+  fewer_graded m more grades l h = record {
+    size = h.size;
+    each = λ k f at. fewer a.core.now a.timing.now.chains.now a.latest.now f m more (get_or a.told.now k None) (get_or grades k Undetected) l (h.each k f at);
+  }
+
+  pub part_begun : (start : ℕ) (grades : List Grade) → AreGradedUpTo a start grades → AreGradedPart a start 0 grades
+  part_begun start grades h = record { size = h.size; done = λ k l. absurd (omega (arith, l)); left = λ k l. h.each k }
+
+  pub part_more : (start i : ℕ) (grades made : List Grade) (grade : Grade) → i < length a.faults.now → made ≡ set grades i grade → IsGradedAt a (start + 64) i grade
+      → AreGradedPart a start i grades → AreGradedPart a start (i + 1) made
+  part_more start i grades made grade l is new h =
+      let size = h.size in
+      let here : get_or made i Undetected ≡ grade = ap (λ (gs : List Grade). get_or gs i Undetected) is ∙ get_or-set_same grades i grade Undetected (omega (arith, l, size)) in
+      let other : (k : ℕ) → k ≢ i → get_or made k Undetected ≡ get_or grades k Undetected =
+      λ k ne. ap (λ (gs : List Grade). get_or gs k Undetected) is ∙ get_or-set_other grades i k grade Undetected ne in
+      record {
+        size = ap length is ∙ (length-set grades i grade ∙ h.size);
+        done = λ k low. elim (cases_eq k i) [
+          | inl same ↦ subst (λ m. IsGradedAt a (start + 64) m (get_or made m Undetected)) (sym same) (subst (IsGradedAt a (start + 64) i) (sym here) new)
+          | inr ne ↦ subst (IsGradedAt a (start + 64) k) (sym (other k ne)) (h.done k (omega (arith, low, ne)))
+        ];
+        left = λ k high.
+            let ne : k ≢ i = λ same. omega (arith, high, same) in
+            subst (IsGradedAt a start k) (sym (other k ne)) (h.left k (omega (arith, high)));
+      }
+
+  pub part_ended : (start i : ℕ) (grades : List Grade) → length a.faults.now ≤ i → AreGradedPart a start i grades → AreGradedUpTo a (start + 64) grades
+  part_ended start i grades l h = record { size = h.size; each = λ k f at. h.done k (let w = slice_get_within a.faults.now k f at in omega (arith, w, l)) f at }
+
+  pub all_graded : IsSound a.core.now → AreAsked a → (grades : List Grade) → AreGradedUpTo a (length a.latest.now) grades
+      → AllZip (IsPatternGrade a.core.now a.timing.now.chains.now (reverse a.latest.now)) a.faults.now grades
+  all_graded sound are grades h =
+      zip_from (IsPatternGrade a.core.now a.timing.now.chains.now (reverse a.latest.now)) a.faults.now grades (sym h.size) (λ i d e l.
+      let count = h.size in
+      let f = get_or a.faults.now i d in
+      let here : slice_get a.faults.now i ≡ Some f = slice_get-get_or a.faults.now i d l in
+      let same : get_or grades i Undetected ≡ get_or grades i e = get_or_default grades i Undetected e (omega (arith, l, count)) in
+      let right : IsPatternGrade a.core.now a.timing.now.chains.now (reverse a.latest.now) f (get_or grades i Undetected) =
+      one_graded a.core.now a.timing.now.chains.now a.latest.now f sound are.timing.are_chains (get_or a.told.now i None) (get_or grades i Undetected) (told_at are i f here) (h.each i f here) in
+      subst (IsPatternGrade a.core.now a.timing.now.chains.now (reverse a.latest.now) f) same right)
 
 -- ---- at the sites
 

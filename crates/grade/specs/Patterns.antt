@@ -13,6 +13,7 @@ use Rattle.scan_insert.specs.Scanned.{AreChainsOf, Insertion, insertion_of}
 use Rattle.chain_test.specs.FirstWrong.{IsFirstPlace}
 use Rattle.grade.specs.declared.grade.Grade.{Grade}
 use Rattle.grade.specs.declared.grade.Grade.TheVariants.{Detected, Undetected, Unknown}
+use Rattle.grade.specs.declared.spreading.GradedDesign.{GradedDesign}
 
 -- in this cycle and at this output a point is strobed at which a pattern detects the fault
 pub record IsDetectingStrobe (n : Netlist) (chains : List (List ℕ)) (patterns : List Pattern) (f : Fault) (c o : ℕ) : Type 0 where
@@ -34,3 +35,7 @@ pub record IsDesignScanned (n : Netlist) (chains : List (List ℕ)) (scanned : I
   pub is_scanned : scanned ≡ insertion_of n chains
   pub are_faults : faults ≡ universe_of n
   pub are_classes : AreClasses n classes
+
+-- the same of a design that is graded
+abbrev pub IsGradedDesign : GradedDesign → Type 0
+IsGradedDesign d = IsDesignScanned d.core.now d.chains.now d.scanned.now d.faults.now d.classes.now

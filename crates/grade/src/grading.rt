@@ -2,12 +2,15 @@
 //!
 //! A play ends once each line of the batch met a strobe that isn't known and equal. That tells of all lines but of those at which X was shown there: for
 //! their sake the batch is played again, by a judge who passes over what isn't known.
-ghost use Rattle.std.specs.Prelude.{◌≡◌, ◌^◌, ◌<◌, ◌≤◌, IfOk, drop, length, map, take};
+ghost use Rattle.std.specs.Prelude.{◌≡◌, ◌^◌, ◌<◌, IfOk, length, map};
 ghost use Rattle.std.specs.List.{All, AllZip, list_any, zip};
 ghost use Rattle.scan_play.specs.Cycles.{IsCycleOf};
+ghost use Rattle.scan_play.specs.inner.Unmet.{unmet_by};
+ghost use Rattle.lane_play.specs.Judged.{AreJudged};
 ghost use Rattle.grade.specs.Grades.{IsGraded};
 ghost use Rattle.grade.specs.inner.Told.{grade_of, grade_told, is_open};
 
+use crate::batching::batch_at;
 use crate::grade::Grade;
 use chain_test::first_wrongs;
 use lane_play::play_lanes;
@@ -15,6 +18,9 @@ use netlist::{Core, Fault, NoMemory};
 use outside::{Gate, OpenGate, Stage};
 use scan_play::{Played, Strict, Vectors};
 use std::alloc::{AllocError, Global};
+
+/// So many lines are graded before others are packed together.
+const BATCH: usize = 512;
 
 /// The grade where this was said of the first strobe that isn't met, and that is the first place that is known to be wrong.
 fn grade_of(unmet: Option<Played>, wrong: Option<(u64, u32)>) -> Grade
@@ -76,6 +82,29 @@ fn grades_of(
         .collect(alloc)
 }
 
+/// The grades of lines by the first strobes that aren't met, and where nothing is known at one, by the first places that are known to be wrong.
+fn grades_from(
+    alloc: Global,
+    core: &Core,
+    lines: &[Fault],
+    vectors: &Vectors,
+    unmet: &[Option<Played>],
+) -> Result<Vec<Grade>, NoMemory>
+    requires fits { All (IsCycleOf core.now) vectors.now }
+    requires few { length vectors.now < 2 ^ 64 }
+    requires judged { AreJudged unmet_by core.now lines.now vectors.now unmet.now }
+    ensures { IfOk result (λ grades. AllZip (λ f grade. IsGraded core.now f vectors.now grade) lines.now grades.items) }
+{
+    core.netlist().sound();
+    if !are_open(unmet) {
+        let grades = grades_told(alloc, unmet)?;
+        return Ok(grades);
+    }
+    let wrong = first_wrongs(alloc, &OpenGate, core, lines, vectors)?;
+    let grades = grades_of(alloc, unmet, &wrong)?;
+    Ok(grades)
+}
+
 /// The grades of the lines of a batch.
 fn batch_grades(
     alloc: Global,
@@ -87,26 +116,8 @@ fn batch_grades(
     requires few { length vectors.now < 2 ^ 64 }
     ensures { IfOk result (λ grades. AllZip (λ f grade. IsGraded core.now f vectors.now grade) lines.now grades.items) }
 {
-    core.netlist().sound();
     let unmet = play_lanes(alloc, core, lines, vectors, &Strict)?;
-    if are_open(&unmet) {
-        let wrong = first_wrongs(alloc, &OpenGate, core, lines, vectors)?;
-        let grades = grades_of(alloc, &unmet, &wrong)?;
-        return Ok(grades);
-    }
-    let grades = grades_told(alloc, &unmet)?;
-    Ok(grades)
-}
-
-/// The next 512 lines, or as many as there are.
-fn batch_at(lines: &[Fault], start: usize) -> &[Fault]
-    requires { start ≤ length lines.now }
-    ensures batch { result.now ≡ take 512 (drop start lines.now) }
-    ensures few { length result.now ≤ 512 }
-{
-    let left = lines.len() - start;
-    let count = if left < 512 { left } else { 512 };
-    &lines[start..start + count]
+    grades_from(alloc, core, lines, vectors, &unmet)
 }
 
 /// What is passed before these lines are graded.
@@ -142,8 +153,8 @@ pub(crate) fn line_grades<G: Gate>(
 {
     stage.at(0, begun(lines));
     let mut all = Vec::with_capacity(alloc, lines.len())?;
-    for batch in 0..lines.len().div_ceil(512) {
-        let own = batch_at(lines, batch * 512);
+    for batch in 0..lines.len().div_ceil(BATCH) {
+        let own = batch_at(lines, batch * BATCH, BATCH);
         let grades = batch_grades(alloc, core, own, vectors)?;
         all.extend_from_slice(&grades)?;
         stage.at(0, answered(&grades));

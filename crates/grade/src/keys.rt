@@ -2,13 +2,21 @@
 ghost use Rattle.std.specs.Prelude.{◌≡◌, ◌^◌, ◌<◌, IfOk, length, slice_index, slice_set};
 ghost use Rattle.scan_insert.specs.Scanned.{AreChainsOf};
 ghost use Rattle.observed_points.specs.Points.{ArePoints, points as points_of, point_of};
-ghost use Rattle.grade.specs.inner.Keys.{AreLeastKeys, IsKeyOf, key_at, lesser, most_key};
+ghost use Rattle.grade.specs.inner.Keys.{AreLeastKeys, IsKeyOf, IsTimingOf, key_at, lesser, most_key};
 
 use netlist::{Core, Netlist};
 use observed_points::{Points, point_at};
 use run_report::{Strobe, strobe_of};
 use scan_insert::Chains;
 use std::alloc::{AllocError, Global};
+
+/// When what is observed of a design is strobed: its chains, its observed points, and for each signal the least key of those that read it.
+#[derive(Drop)]
+pub(crate) struct Timing<'a> {
+    pub chains: &'a Chains,
+    pub points: Points,
+    pub keys: Vec<u64>,
+}
 
 /// A number for a strobe.
 fn key_at(strobe: Strobe) -> u64
@@ -56,7 +64,7 @@ fn lower(keys: &mut Vec<u64>, signal: usize, key: u64)
 }
 
 /// For each signal the least key of the points that read it, or the greatest number where none does.
-pub(crate) fn least_keys(
+fn least_keys(
     alloc: Global,
     core: &Core,
     chains: &Chains,
@@ -75,4 +83,23 @@ pub(crate) fn least_keys(
         lower(&mut keys, points.seen[number].index(), key);
     }
     Ok(keys)
+}
+
+/// When what is observed of a design with these chains is strobed.
+pub(crate) fn timing_of<'a>(
+    alloc: Global,
+    core: &Core,
+    chains: &'a Chains,
+) -> Result<Timing<'a>, AllocError>
+    requires { AreChainsOf core.now chains.now }
+    ensures timing { IfOk result (λ t. IsTimingOf core.now t) }
+    ensures chains { IfOk result (λ t. t.chains.now ≡ chains.now) }
+{
+    let points = Points::of(alloc, core)?;
+    let keys = least_keys(alloc, core, chains, &points)?;
+    Ok(Timing {
+        chains,
+        points,
+        keys,
+    })
 }

@@ -2,28 +2,23 @@
 //!
 //! Where the fault reaches the head of its fanout-free region under the pattern, the head is turned over under that pattern alone, so that nothing is
 //! evaluated for the other 63; else the stuck line is put onto the words of all. The words are then those before.
-ghost use Rattle.std.specs.Prelude.{◌≡◌, ◌&&◌, ◌^◌, ◌<◌, ◌≤◌, [], ℕ, List, Some, length, slice_get, slice_index, if◌then◌else◌};
+ghost use Rattle.std.specs.Prelude.{◌≡◌, ◌<◌, [], ℕ, drop, length, slice_index, take, if◌then◌else◌};
 ghost use Rattle.std.specs.List.{All};
 ghost use Rattle.netlist.specs.Lines.{IsLineOf};
-ghost use Rattle.statement.specs.Patterns.{Pattern as Bits};
 ghost use Rattle.events.specs.declared.trails.Change.{Change as ChangeOf};
 ghost use Rattle.events.specs.Stuck.{IsObservedOnly};
-ghost use Rattle.observed_points.specs.Points.{ArePoints, IsReadAt, points as points_of};
-ghost use Rattle.scan_insert.specs.Scanned.{AreChainsOf};
+ghost use Rattle.events.specs.Trails.{undone};
 ghost use Rattle.word_sim.specs.inner.Differences.{IsFirstShown, shows};
-ghost use Rattle.word_sim.specs.inner.Packed.{AreGoodFor};
-ghost use Rattle.grade.specs.inner.Keys.{AreLeastKeys, IsFirstKey, most_key};
+ghost use Rattle.grade.specs.inner.Keys.{IsTimingOf, most_key};
 ghost use Rattle.statement.specs.Netlists.{signals};
 ghost use Rattle.events.specs.Words.{bit_of};
 ghost use Rattle.regions.specs.Paths.{AreOpen};
 ghost use Rattle.grade.specs.inner.Spotting.{IsSpotted, IsSpottedFrom};
 
-use crate::keys::key_of;
+use crate::keys::{Timing, key_of};
 use events::{Change, Events, Words};
 use netlist::{Fault, SignalId};
-use observed_points::Points;
 use regions::{Paths, turn};
-use scan_insert::Chains;
 
 /// The lesser of a number and the least key of a signal that a change shows under a pattern.
 #[inline(always)]
@@ -56,21 +51,27 @@ fn nearest(trail: &[Change<u64>], values: &[u64], keys: &[u64], j: u32) -> u64
     least
 }
 
+/// The least key of what changed, under a pattern. Then nothing has changed.
+fn nearest_undone(events: &mut Events<'_, u64>, timing: &Timing<'_>, j: u32) -> u64
+    requires size { length timing.now.keys.items ≡ length (signals events.old.netlist) }
+    requires low { j < 64 }
+    ensures first { IsFirstShown timing.now.keys.items most_key events.old.values j events.old.trail result }
+    ensures size { length events.old.values ≡ length (signals events.old.netlist) }
+    ensures undone { events.new ≡ record events.old { values = undone (drop 0 events.old.trail) events.old.values; trail = take 0 events.old.trail } }
+{
+    let key = nearest(events.trail(), events.values(), &timing.keys, j);
+    events.undo(0);
+    key
+}
+
 /// By what the stuck line changes.
-fn spot_stuck(
-    events: &mut Events<'_, u64>,
-    chains: &Chains,
-    keys: &[u64],
-    fault: &Fault,
-    j: u32,
-) -> u64
-    requires chains { AreChainsOf events.old.netlist chains.now }
-    requires keys { AreLeastKeys events.old.netlist chains.now (length (points_of events.old.netlist)) keys.now }
+fn spot_stuck(events: &mut Events<'_, u64>, timing: &Timing<'_>, fault: &Fault, j: u32) -> u64
+    requires timing { IsTimingOf events.old.netlist timing.now }
     requires line { IsLineOf events.old.netlist fault.now.line }
     requires enters { ¬ IsObservedOnly events.old.netlist fault.now.line }
     requires trail { events.old.trail ≡ [] }
     requires low { j < 64 }
-    ensures first { IsSpotted events.old.netlist chains.now events.old.values fault.now j result }
+    ensures first { IsSpotted events.old.netlist timing.now.chains.now events.old.values fault.now j result }
     ensures same { events.new ≡ events.old }
 {
     events.core().netlist().sound();
@@ -78,9 +79,7 @@ fn spot_stuck(
         fault: Some(*fault),
     };
     events.stick(&rule, fault);
-    let key = nearest(events.trail(), events.values(), keys, j);
-    events.undo(0);
-    key
+    nearest_undone(events, timing, j)
 }
 
 /// Whether a word has the bit of a pattern.
@@ -92,45 +91,34 @@ fn has_bit(word: u64, j: u32) -> bool
 }
 
 /// By what the head of the fault's region changes, turned over under the one pattern.
-fn spot_turned(
-    events: &mut Events<'_, u64>,
-    chains: &Chains,
-    keys: &[u64],
-    head: SignalId,
-    j: u32,
-) -> u64
-    requires chains { AreChainsOf events.old.netlist chains.now }
-    requires keys { AreLeastKeys events.old.netlist chains.now (length (points_of events.old.netlist)) keys.now }
+fn spot_turned(events: &mut Events<'_, u64>, timing: &Timing<'_>, head: SignalId, j: u32) -> u64
+    requires timing { IsTimingOf events.old.netlist timing.now }
     requires within { head < length (signals events.old.netlist) }
     requires trail { events.old.trail ≡ [] }
     requires low { j < 64 }
-    ensures first { IsSpottedFrom events.old.netlist chains.now events.old.values head j result }
+    ensures first { IsSpottedFrom events.old.netlist timing.now.chains.now events.old.values head j result }
     ensures same { events.new ≡ events.old }
 {
     events.core().netlist().sound();
     turn(events, head, 1u64 << j);
-    let key = nearest(events.trail(), events.values(), keys, j);
-    events.undo(0);
-    key
+    nearest_undone(events, timing, j)
 }
 
 /// By what it changes: from the head that it reaches, where it does.
 fn spot_within(
     events: &mut Events<'_, u64>,
-    chains: &Chains,
     paths: &Paths,
-    keys: &[u64],
+    timing: &Timing<'_>,
     fault: &Fault,
     j: u32,
 ) -> u64
-    requires chains { AreChainsOf events.old.netlist chains.now }
+    requires timing { IsTimingOf events.old.netlist timing.now }
     requires open { AreOpen events.old.netlist events.old.values paths.now.heads.items paths.now.opens.items }
-    requires keys { AreLeastKeys events.old.netlist chains.now (length (points_of events.old.netlist)) keys.now }
     requires line { IsLineOf events.old.netlist fault.now.line }
     requires enters { ¬ IsObservedOnly events.old.netlist fault.now.line }
     requires trail { events.old.trail ≡ [] }
     requires low { j < 64 }
-    ensures first { IsSpotted events.old.netlist chains.now events.old.values fault.now j result }
+    ensures first { IsSpotted events.old.netlist timing.now.chains.now events.old.values fault.now j result }
     ensures same { events.new ≡ events.old }
 {
     let netlist = events.core().netlist();
@@ -138,39 +126,35 @@ fn spot_within(
     match paths.reach(netlist, events.values(), fault) {
         Some((head, word)) => {
             if has_bit(word, j) {
-                spot_turned(events, chains, keys, head, j)
+                spot_turned(events, timing, head, j)
             } else {
-                spot_stuck(events, chains, keys, fault, j)
+                spot_stuck(events, timing, fault, j)
             }
         }
-        None => spot_stuck(events, chains, keys, fault, j),
+        None => spot_stuck(events, timing, fault, j),
     }
 }
 
 /// The key of the strobe at which a pattern first shows a fault, if it does at some.
 pub(crate) fn spot(
     events: &mut Events<'_, u64>,
-    chains: &Chains,
-    points: &Points,
     paths: &Paths,
-    keys: &[u64],
+    timing: &Timing<'_>,
     fault: &Fault,
     j: u32,
 ) -> u64
-    requires chains { AreChainsOf events.old.netlist chains.now }
+    requires timing { IsTimingOf events.old.netlist timing.now }
     requires open { AreOpen events.old.netlist events.old.values paths.now.heads.items paths.now.opens.items }
-    requires points { ArePoints events.old.netlist points.now.seen.items points.now.first.items points.now.numbers.items }
-    requires keys { AreLeastKeys events.old.netlist chains.now (length (points_of events.old.netlist)) keys.now }
     requires line { IsLineOf events.old.netlist fault.now.line }
     requires trail { events.old.trail ≡ [] }
     requires low { j < 64 }
-    ensures first { IsSpotted events.old.netlist chains.now events.old.values fault.now j result }
+    ensures first { IsSpotted events.old.netlist timing.now.chains.now events.old.values fault.now j result }
     ensures same { events.new ≡ events.old }
 {
     let netlist = events.core().netlist();
     netlist.sound();
-    match points.sole(netlist, &fault.line) {
-        Some(number) => key_of(netlist, chains, number as usize),
-        None => spot_within(events, chains, paths, keys, fault, j),
+    match timing.points.sole(netlist, &fault.line) {
+        Some(number) => key_of(netlist, timing.chains, number as usize),
+        None => spot_within(events, paths, timing, fault, j),
     }
 }

@@ -7,7 +7,7 @@ ghost use Rattle.chain_test.specs.Hardware.{at_site};
 ghost use Rattle.statement.specs.Tests.{vectors_in};
 ghost use Rattle.stil_vectors.specs.Fitting.{FitsNetlist};
 ghost use Rattle.grade.specs.Grades.{AreGrades};
-ghost use Rattle.grade.specs.Patterns.{IsDesignScanned};
+ghost use Rattle.grade.specs.Patterns.{IsGradedDesign};
 ghost use Rattle.grade.specs.inner.ByPatterns.{AreTestCycles};
 ghost use Rattle.grade.specs.inner.Spread.{AreSiteGrades, grade_at};
 
@@ -27,6 +27,16 @@ use scan_play::Vectors;
 use std::alloc::{AllocError, Global};
 use stil_vectors::{cycle_count, fitting_cycles, vectors};
 use stil_write::StilFile;
+
+/// A design that is graded: its chains, what insertion makes of them, its faults, and their classes.
+#[derive(Clone, Copy)]
+pub struct GradedDesign<'a> {
+    pub core: &'a Core,
+    pub chains: &'a Chains,
+    pub scanned: &'a Scanned,
+    pub faults: &'a FaultSet,
+    pub classes: &'a Classes,
+}
 
 /// A fault of the design at its site.
 fn at_site(scanned: &Scanned, fault: Fault) -> Fault
@@ -76,24 +86,20 @@ fn spread(
 fn grades_by_patterns<G: Gate>(
     alloc: Global,
     stage: &G,
-    design: &Core,
-    chains: &Chains,
-    scanned: &Scanned,
-    faults: &FaultSet,
-    classes: &Classes,
+    design: &GradedDesign<'_>,
     file: &StilFile,
     patterns: Vec<Pattern>,
 ) -> Result<Vec<Grade>, NoMemory>
-    requires design { IsDesignScanned design.now chains.now scanned.now faults.now classes.now }
-    requires test { AreTestCycles design.now chains.now (vectors_in file.now) patterns.items }
-    ensures { IfOk result (λ grades. AreSiteGrades scanned.now (vectors_in file.now) classes.now.representatives grades.items) }
+    requires design { IsGradedDesign design.now }
+    requires test { AreTestCycles design.now.core.now design.now.chains.now (vectors_in file.now) patterns.items }
+    ensures { IfOk result (λ grades. AreSiteGrades design.now.scanned.now (vectors_in file.now) design.now.classes.now.representatives grades.items) }
 {
-    design.netlist().sound();
+    design.core.netlist().sound();
     faults_have_lines();
     patterns_grade();
-    let representatives = classes.representatives();
+    let representatives = design.classes.representatives();
     stage.at(0, begun(representatives));
-    let grades = pattern_grades(alloc, design, chains, patterns, representatives)?;
+    let grades = pattern_grades(alloc, design.core, design.chains, patterns, representatives)?;
     stage.at(0, answered(&grades));
     Ok(grades)
 }
@@ -103,7 +109,13 @@ fn core_of(alloc: Global, scanned: &Scanned) -> Result<Core, NoMemory>
     ensures { IfOk result (λ core. core ≡ scanned.now.netlist) }
 {
     let copy = scanned.netlist().copy(alloc)?;
-    Core::of(alloc, copy).map_err(|_| NoMemory)
+    match Core::of(alloc, copy) {
+        Ok(core) => Ok(core),
+        Err(refused) => {
+            drop(refused);
+            Err(NoMemory)
+        }
+    }
 }
 
 /// The cycles of a file, which have to be fewer than 2 to the 64.
@@ -117,48 +129,67 @@ fn cycles_of(alloc: Global, file: &StilFile) -> Result<Vectors, NoMemory>
     }
 }
 
+/// The grade of each class, by play of its representative at its site in this core.
+fn grades_in<G: Gate>(
+    alloc: Global,
+    stage: &G,
+    core: &Core,
+    scanned: &Scanned,
+    representatives: &[Fault],
+    file: &StilFile,
+) -> Result<Vec<Grade>, NoMemory>
+    requires core { core.now ≡ scanned.now.netlist }
+    requires signals { All (λ (f : Stuck). signal_of f.line < length scanned.now.sites) representatives.now }
+    requires fits { FitsNetlist file.now scanned.now.netlist }
+    ensures { IfOk result (λ grades. AreSiteGrades scanned.now (vectors_in file.now) representatives.now grades.items) }
+{
+    file.sound();
+    fitting_cycles();
+    let cycles = cycles_of(alloc, file)?;
+    let sites = sites_of(alloc, scanned, representatives)?;
+    line_grades(alloc, stage, core, &sites, &cycles)
+}
+
 /// The grade of each class, by play of its representative at its site.
 fn grades_by_play<G: Gate>(
     alloc: Global,
     stage: &G,
     scanned: &Scanned,
-    classes: &Classes,
+    representatives: &[Fault],
     file: &StilFile,
 ) -> Result<Vec<Grade>, NoMemory>
-    requires signals { All (λ (f : Stuck). signal_of f.line < length scanned.now.sites) classes.now.representatives }
+    requires signals { All (λ (f : Stuck). signal_of f.line < length scanned.now.sites) representatives.now }
     requires fits { FitsNetlist file.now scanned.now.netlist }
-    ensures { IfOk result (λ grades. AreSiteGrades scanned.now (vectors_in file.now) classes.now.representatives grades.items) }
+    ensures { IfOk result (λ grades. AreSiteGrades scanned.now (vectors_in file.now) representatives.now grades.items) }
 {
-    file.sound();
-    fitting_cycles();
     let core = core_of(alloc, scanned)?;
-    let cycles = cycles_of(alloc, file)?;
-    let sites = sites_of(alloc, scanned, classes.representatives())?;
-    line_grades(alloc, stage, &core, &sites, &cycles)
+    let grades = grades_in(alloc, stage, &core, scanned, representatives, file);
+    drop(core);
+    grades
 }
 
 /// The grade of each class: by the patterns of which the file is the test, if it is that of some, or else by play.
 fn class_grades<G: Gate>(
     alloc: Global,
     stage: &G,
-    design: &Core,
-    chains: &Chains,
-    scanned: &Scanned,
-    faults: &FaultSet,
-    classes: &Classes,
+    design: &GradedDesign<'_>,
     file: &StilFile,
 ) -> Result<Vec<Grade>, NoMemory>
-    requires design { IsDesignScanned design.now chains.now scanned.now faults.now classes.now }
-    requires fits { FitsNetlist file.now scanned.now.netlist }
-    ensures { IfOk result (λ grades. AreSiteGrades scanned.now (vectors_in file.now) classes.now.representatives grades.items) }
+    requires design { IsGradedDesign design.now }
+    requires fits { FitsNetlist file.now design.now.scanned.now.netlist }
+    ensures { IfOk result (λ grades. AreSiteGrades design.now.scanned.now (vectors_in file.now) design.now.classes.now.representatives grades.items) }
 {
-    design.netlist().sound();
+    design.core.netlist().sound();
     faults_have_signals();
-    match test_patterns(alloc, design, chains, file)? {
-        Some(patterns) => grades_by_patterns(
-            alloc, stage, design, chains, scanned, faults, classes, file, patterns,
+    match test_patterns(alloc, design.core, design.chains, file)? {
+        Some(patterns) => grades_by_patterns(alloc, stage, design, file, patterns),
+        None => grades_by_play(
+            alloc,
+            stage,
+            design.scanned,
+            design.classes.representatives(),
+            file,
         ),
-        None => grades_by_play(alloc, stage, scanned, classes, file),
     }
 }
 
@@ -166,22 +197,18 @@ fn class_grades<G: Gate>(
 pub fn grades<G: Gate>(
     alloc: Global,
     stage: &G,
-    design: &Core,
-    chains: &Chains,
-    scanned: &Scanned,
-    faults: &FaultSet,
-    classes: &Classes,
+    design: &GradedDesign<'_>,
     file: &StilFile,
 ) -> Result<Vec<Grade>, NoMemory>
-    requires design { IsDesignScanned design.now chains.now scanned.now faults.now classes.now }
-    requires fits { FitsNetlist file.now scanned.now.netlist }
-    ensures { IfOk result (λ grades. AreGrades scanned.now faults.now (vectors_in file.now) grades.items) }
+    requires design { IsGradedDesign design.now }
+    requires fits { FitsNetlist file.now design.now.scanned.now.netlist }
+    ensures { IfOk result (λ grades. AreGrades design.now.scanned.now design.now.faults.now (vectors_in file.now) grades.items) }
 {
-    design.netlist().sound();
-    scanned.netlist().sound();
+    design.core.netlist().sound();
+    design.scanned.netlist().sound();
     faults_have_lines();
     equivalent_runs();
-    let by_class = class_grades(alloc, stage, design, chains, scanned, faults, classes, file)?;
-    let grades = spread(alloc, faults.len(), classes, &by_class)?;
+    let by_class = class_grades(alloc, stage, design, file)?;
+    let grades = spread(alloc, design.faults.len(), design.classes, &by_class)?;
     Ok(grades)
 }

@@ -7,7 +7,7 @@ ghost use Rattle.redundancy_cert.specs.TestCubes.{IsTestCube};
 ghost use Rattle.podem.specs.Rooms.{IsReusablePodemRoom};
 ghost use Rattle.podem.specs.inner.Searching.{AreOnSources, IsTestAt, IsReady, IsKept};
 
-use crate::engine::PodemRoom;
+use crate::engine::{PodemRoom, room_of};
 use crate::searching::{cube_there, wanted_source};
 use cubes::Cube;
 use decisions::Case;
@@ -94,7 +94,7 @@ pub fn tried_in<'a>(
     core.netlist().sound();
     let found = tried(alloc, &case, &mut labels, bits)?;
     let room = PodemRoom {
-        labels: labels.into_room(),
+        labels: room_of(&case, labels),
         effects: room.effects,
         places: room.places,
     };

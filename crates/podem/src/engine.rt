@@ -1,6 +1,10 @@
 //! The engine: up to four attempts, each a whole search, of which the last alone may give up. They differ in the pin that the backtrace goes to, so
 //! what one misses another may find; a fault that is redundant mostly stays so dear to all of them.
 ghost use Rattle.std.specs.Prelude.{◌≡◌, ◌≤◌, None, IfOk, IfSome, OnOk};
+ghost use Rattle.netlist.specs.Holds.{AreHoldsOf};
+ghost use Rattle.netlist.specs.Lines.{IsLineOf};
+ghost use Rattle.pair_sim.specs.Rooms.{IsReusableLabelRoom};
+ghost use Rattle.podem.specs.Rooms.{IsReusablePodemRoom};
 ghost use Rattle.podem.specs.inner.Searching.{IsReady, IsAnswer, IsKept};
 
 use crate::guides::{Guide, Pick};
@@ -62,7 +66,7 @@ fn attempts(
     guide: &mut Guide,
     labels: &mut PairSim,
     limit: u32,
-) -> Result<Found, AllocError>
+) -> Result<Found, NoMemory>
     requires start { IsReady case.now labels.old }
     requires some { 1 ≤ limit }
     ensures answer { IfOk result (IsAnswer case.now limit) }
@@ -83,7 +87,67 @@ fn attempts(
         Pick::Lowest
     };
     guide.go_to(last);
-    whole_search(alloc, case, guide, labels, limit)
+    let found = whole_search(alloc, case, guide, labels, limit)?;
+    Ok(found)
+}
+
+/// A search with labels of its own.
+fn search_alone(
+    alloc: Global,
+    case: &Case,
+    guide: &mut Guide,
+    limit: u32,
+) -> Result<Found, NoMemory>
+    requires some { 1 ≤ limit }
+    requires holds { AreHoldsOf case.now.core.now case.now.holds.now }
+    requires line { IsLineOf case.now.core.now case.now.fault.line }
+    ensures { IfOk result (IsAnswer case.now limit) }
+{
+    let mut labels = PairSim::new(alloc, case.core, case.fault, case.holds)?;
+    case.core.netlist().sound();
+    attempts(alloc, case, guide, &mut labels, limit)
+}
+
+/// What is kept of a case's labels.
+pub(crate) fn room_of(case: &Case, labels: PairSim) -> SimRoom
+    requires kept { IsKept case.now labels }
+    requires line { IsLineOf case.now.core.now case.now.fault.line }
+    ensures { IsReusableLabelRoom case.now.core.now case.now.holds.now result }
+{
+    labels.into_room()
+}
+
+/// A search in a room, and the room back.
+fn search_kept(
+    podem: &Podem,
+    alloc: Global,
+    room: PodemRoom,
+    case: &Case,
+    limit: u32,
+) -> Result<(Found, PodemRoom), NoMemory>
+    requires some { 1 ≤ limit }
+    requires holds { AreHoldsOf case.now.core.now case.now.holds.now }
+    requires line { IsLineOf case.now.core.now case.now.fault.line }
+    requires room { IsReusablePodemRoom case.now.core.now case.now.holds.now room }
+    ensures answer { IfOk result (λ r. IsAnswer case.now limit r.0) }
+    ensures room { IfOk result (λ r. IsReusablePodemRoom case.now.core.now case.now.holds.now r.1) }
+{
+    let mut labels = PairSim::in_room(room.labels, case.core, case.fault, case.holds);
+    let mut guide = Guide::of(
+        &podem.measures,
+        &podem.orders,
+        &case.fault,
+        room.effects,
+        room.places,
+    );
+    case.core.netlist().sound();
+    let found = attempts(alloc, case, &mut guide, &mut labels, limit)?;
+    let room = PodemRoom {
+        labels: room_of(case, labels),
+        effects: guide.effects,
+        places: guide.places,
+    };
+    Ok((found, room))
 }
 
 impl Podem {
@@ -118,20 +182,17 @@ impl Engine for Podem {
         limit: u32,
         holds: &Holds,
     ) -> Result<Found, NoMemory> {
-        let mut labels = PairSim::new(alloc, core, fault, holds)?;
-        let effects = Effects::new(alloc);
         let places = Places::of(alloc, self.orders.count())?;
+        let effects = Effects::new(alloc);
         let mut guide = Guide::of(&self.measures, &self.orders, &fault, effects, places);
-        core.netlist().sound();
         let case = Case { core, fault, holds };
-        let found = attempts(alloc, &case, &mut guide, &mut labels, limit)?;
-        Ok(found)
+        search_alone(alloc, &case, &mut guide, limit)
     }
 
     fn room(&self, alloc: Global, core: &Core, holds: &Holds) -> Result<PodemRoom, NoMemory> {
-        let labels = SimRoom::new(alloc, core, holds)?;
-        let effects = Effects::new(alloc);
         let places = Places::of(alloc, self.orders.count())?;
+        let effects = Effects::new(alloc);
+        let labels = SimRoom::new(alloc, core, holds)?;
         Ok(PodemRoom {
             labels,
             effects,
@@ -148,22 +209,7 @@ impl Engine for Podem {
         limit: u32,
         holds: &Holds,
     ) -> Result<(Found, PodemRoom), NoMemory> {
-        let mut labels = PairSim::in_room(room.labels, core, fault, holds);
-        let mut guide = Guide::of(
-            &self.measures,
-            &self.orders,
-            &fault,
-            room.effects,
-            room.places,
-        );
-        core.netlist().sound();
         let case = Case { core, fault, holds };
-        let found = attempts(alloc, &case, &mut guide, &mut labels, limit)?;
-        let room = PodemRoom {
-            labels: labels.into_room(),
-            effects: guide.effects,
-            places: guide.places,
-        };
-        Ok((found, room))
+        search_kept(self, alloc, room, &case, limit)
     }
 }

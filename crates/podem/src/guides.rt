@@ -1,5 +1,5 @@
 //! What a decision is made for: an objective, traced back to an input or a cell. Nothing stands on it but the speed of the search.
-ghost use Rattle.std.specs.Prelude.{◌≡◌};
+ghost use Rattle.std.specs.Prelude.{◌≡◌, ⊤};
 ghost use Rattle.pair_sim.specs.Sims.{IsNotBlocked};
 
 use decisions::{
@@ -8,6 +8,8 @@ use decisions::{
 };
 use netlist::{Core, Fault, Kind, Line, SignalId};
 use pair_sim::PairSim;
+use std::alloc::AllocError;
+use std::marker::Model;
 
 /// A gate that the fault's effect has reached, what it costs to see it, and what lets the effect through.
 #[derive(Clone, Copy)]
@@ -40,6 +42,13 @@ pub(crate) struct Guide<'a> {
     pub(crate) places: Places,
 }
 
+// Contracts see nothing of it: no answer rests on it. (So what it is made of stands in no proof of the functions that hand it on.)
+impl<'a> Model for Guide<'a> {
+    ghost Value = { ⊤ };
+
+    ghost view = { λ _. tt };
+}
+
 impl<'a> Guide<'a> {
     /// With room for effects and for places in orders, whatever it held.
     pub(crate) fn of(
@@ -57,6 +66,26 @@ impl<'a> Guide<'a> {
             effects,
             places,
         }
+    }
+
+    /// Another search begins.
+    pub(crate) fn begin(&mut self) {
+        self.effects.begin();
+    }
+
+    /// Looks at what the trail of labels has gained, after so many decisions.
+    pub(crate) fn follow(
+        &mut self,
+        case: &Case,
+        labels: &PairSim,
+        depth: usize,
+    ) -> Result<(), AllocError>
+        requires same { labels.now.netlist ≡ case.now.core.now }
+        requires not_blocked { IsNotBlocked labels.now }
+    {
+        self.effects.follow(case.core, &case.fault, labels)?;
+        self.places.reach(depth);
+        Ok(())
     }
 
     /// From here on the backtrace goes to these pins.

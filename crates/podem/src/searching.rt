@@ -23,8 +23,7 @@ ghost use Rattle.podem.specs.inner.Searching.{MayGoOn, MayTurn, IsFreeSource, Is
 use crate::guides::{Guide, best_aim};
 use cubes::Cube;
 use decisions::{
-    Aim, Case, Effects, Step, climb, close_both, closed_tree, one_if, push, signal_count,
-    tree_so_far,
+    Aim, Case, Step, climb, close_both, closed_tree, one_if, push, signal_count, tree_so_far,
 };
 use evidence::Found;
 use netlist::{Core, Point, SignalId, Tri};
@@ -147,7 +146,7 @@ fn choose(case: &Case, guide: &mut Guide, labels: &PairSim, stack: &Vec<Side>) -
 /// A turn where this side is closed: goes to the other one.
 fn after_closed(
     alloc: Global,
-    effects: &mut Effects,
+    guide: &mut Guide,
     labels: &mut PairSim,
     stack: &mut Vec<Side>,
     side: Aim,
@@ -159,7 +158,16 @@ fn after_closed(
 {
     match go(labels, side.signal, !side.bit) {
         State::Test(point) => Ok(Step::Found(point)),
-        State::Blocked => close_both(alloc, effects, labels, stack, side.signal, side.bit),
+        State::Blocked => {
+            close_both(
+                alloc,
+                &mut guide.effects,
+                labels,
+                stack,
+                side.signal,
+                side.bit,
+            )
+        }
         State::Going => push(stack, side.signal, !side.bit, Other::Shut),
     }
 }
@@ -189,7 +197,7 @@ fn after_going(
 fn split(
     alloc: Global,
     case: &Case,
-    effects: &mut Effects,
+    guide: &mut Guide,
     labels: &mut PairSim,
     stack: &mut Vec<Side>,
     side: Aim,
@@ -203,7 +211,7 @@ fn split(
     };
     match look(labels, other.signal, other.bit) {
         State::Test(point) => Ok(Step::Found(point)),
-        State::Blocked => after_closed(alloc, effects, labels, stack, other),
+        State::Blocked => after_closed(alloc, guide, labels, stack, other),
         State::Going => after_going(case, labels, stack, other),
     }
 }
@@ -212,7 +220,7 @@ fn split(
 fn hurry(
     alloc: Global,
     case: &Case,
-    effects: &mut Effects,
+    guide: &mut Guide,
     labels: &mut PairSim,
     stack: &mut Vec<Side>,
     side: Aim,
@@ -222,7 +230,7 @@ fn hurry(
 {
     match go(labels, side.signal, side.bit) {
         State::Test(point) => Ok(Step::Found(point)),
-        State::Blocked => after_closed(alloc, effects, labels, stack, side),
+        State::Blocked => after_closed(alloc, guide, labels, stack, side),
         State::Going => push(stack, side.signal, side.bit, Other::Untried),
     }
 }
@@ -239,20 +247,19 @@ fn take_turn(
     requires { MayGoOn case.now looks labels.old stack.old.items }
     ensures { IfOk result (IsStepped case.now looks stack.old.items labels.new stack.new.items) }
 {
-    guide.effects.follow(case.core, &case.fault, labels)?;
-    guide.places.reach(stack.len());
+    guide.follow(case, labels, stack.len())?;
     let aim = choose(case, guide, labels, stack);
     if looks {
-        split(alloc, case, &mut guide.effects, labels, stack, aim)
+        split(alloc, case, guide, labels, stack, aim)
     } else {
-        hurry(alloc, case, &mut guide.effects, labels, stack, aim)
+        hurry(alloc, case, guide, labels, stack, aim)
     }
 }
 
 /// The path's end is closed: goes back.
 fn go_back(
     alloc: Global,
-    effects: &mut Effects,
+    guide: &mut Guide,
     labels: &mut PairSim,
     stack: &mut Vec<Side>,
 ) -> Result<Step, AllocError>
@@ -261,7 +268,7 @@ fn go_back(
     ensures step { IfOk result (IsBacktrackStep (Node.Closed ∷ []) stack.old.items stack.new.items) }
 {
     let done = closed_tree(alloc)?;
-    match climb(effects, labels, stack, done)? {
+    match climb(&mut guide.effects, labels, stack, done)? {
         Some(nodes) => Ok(Step::Done(nodes)),
         None => Ok(Step::On(true)),
     }
@@ -285,7 +292,7 @@ fn turn(
     }
     match labels.state() {
         State::Test(point) => Ok(Step::Found(point)),
-        State::Blocked => go_back(alloc, &mut guide.effects, labels, stack),
+        State::Blocked => go_back(alloc, guide, labels, stack),
         State::Going => take_turn(alloc, case, guide, labels, stack, looks),
     }
 }
@@ -394,7 +401,7 @@ fn search_from(
             Ok(Some(Found::Closed(Tree::new(tree))))
         }
         State::Going => {
-            guide.effects.begin();
+            guide.begin();
             search_on(alloc, case, guide, labels, stack, limit, looks)
         }
     }

@@ -2,12 +2,13 @@ mod SpreadLemmas
 mod CountLemmas
 mod KnownLemmas
 mod FirstLemmas
-mod OpenLemmas
 mod DrawLemmas
 mod TellLemmas
 mod JoinLemmas
 mod OftenLemmas
+mod NearLemmas
 mod SearchLemmas
+mod FoundLemmas
 mod LineLemmas
 mod LeafLemmas
 mod TruthLemmas

@@ -10,4 +10,4 @@ pub mod Outcomes
 pub mod Reports
 pub mod Written
 pub mod Laws
-pub mod Open
+pub mod Batches

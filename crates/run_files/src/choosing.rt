@@ -1,27 +1,26 @@
 //! Which of the patterns that were found are kept, and the verdicts by them.
-ghost use Rattle.std.specs.Prelude.{◌≡◌, ◌+◌, ◌<◌, ◌≤◌, ◌^◌, List, IfOk, length};
+ghost use Rattle.std.specs.Prelude.{◌≡◌, ◌+◌, ◌<◌, ◌≤◌, ◌^◌, IfOk, length};
 ghost use Rattle.std.specs.List.{All};
-ghost use Rattle.statement.specs.Patterns.{Pattern as Bits};
 ghost use Rattle.word_sim.specs.Words.{HasWidthsOf};
-ghost use Rattle.run_files.specs.inner.Often.{AreChosen, AreGathered};
+ghost use Rattle.run_files.specs.inner.Often.{AreChosen, AreFewTold};
 ghost use Rattle.run_files.specs.inner.Plans.{AreFaultsOf, MayRun};
 ghost use Rattle.run_files.specs.inner.Searches.{AreKnown};
 
 use crate::asked::RunPlan;
 use crate::compacting::{compact_told, redundant_marks};
+use crate::last::{last_few, last_told};
 use crate::repeating::repeated;
 use crate::telling::tell;
 use cubes::Pattern;
-use detections::{LastFew, last_few_of};
 use evidence::{Engine, shown_is_redundant};
 use fewer_patterns::{Rounds, fewer};
-use list_core::{Finished, Verdict, kept};
+use list_core::{Finished, Verdict};
 use netlist::{Fault, NoMemory};
 use outside::Gate;
 use std::sync::Wait;
 use std::thread::Threads;
 use word_sim::unmarked;
-use worker::{Errand, last_tells_beside};
+use worker::Errand;
 
 /// Fewer patterns that detect as much, of which each is the last to detect some fault. Redundant ones are left out, since nothing detects them.
 fn chosen_once<E: Engine, G: Gate, R: Threads + Sync>(
@@ -61,6 +60,7 @@ fn chosen_once<E: Engine, G: Gate, R: Threads + Sync>(
 }
 
 /// The patterns that are among the last so many to detect some fault, and the verdicts by them.
+#[tactic(auto, using(crate::proofs::NearLemmas::told_size, crate::proofs::NearLemmas::few_told))]
 fn last_few_kept<E: Engine, G: Gate, R: Threads + Sync>(
     errand: &Errand<'_, E, G, R>,
     plan: RunPlan,
@@ -73,17 +73,16 @@ fn last_few_kept<E: Engine, G: Gate, R: Threads + Sync>(
     requires count { length verdicts.items ≡ length faults.now }
     requires wide { All (HasWidthsOf errand.now.core.now) patterns.items }
     requires small { length patterns.items + 64 ≤ 2 ^ 32 }
-    ensures { IfOk result (λ f. (given : List Bits) → AreGathered errand.now.core.now errand.now.holds.now faults.now given patterns.items
-        → AreChosen errand.now.core.now errand.now.holds.now plan.times faults.now given verdicts.items f.patterns.items f.verdicts.items) }
+    ensures { IfOk result (λ f. AreFewTold errand.now.core.now plan.times faults.now patterns.items verdicts.items f.patterns.items f.verdicts.items) }
 {
-    let alloc = errand.alloc;
-    let core = errand.core;
-    let LastFew { needed, .. } = last_few_of(alloc, core, faults, &patterns, plan.times)?;
-    let patterns = kept(alloc, patterns, &needed)?;
-    let last = last_tells_beside(errand.rt, alloc, core, faults, &patterns, plan.workers)?;
+    let kept = last_few(errand.alloc, errand.core, faults, patterns, plan.times)?;
+    let last = last_told(errand, plan, faults, &kept)?;
     let mut verdicts = verdicts;
     tell(&mut verdicts, &last);
-    Ok(Finished { patterns, verdicts })
+    Ok(Finished {
+        patterns: kept,
+        verdicts,
+    })
 }
 
 /// The patterns that are kept so that each fault is detected so many times, where so many were found. What makes patterns fewer would lose detections.
@@ -101,7 +100,8 @@ fn chosen_often<E: Engine + Sync, G: Gate + Sync, R: Threads + Wait + Sync>(
 {
     let Finished { patterns, verdicts } = found;
     let patterns = repeated(errand, plan, faults, patterns)?;
-    last_few_kept(errand, plan, faults, patterns, verdicts)
+    let found = last_few_kept(errand, plan, faults, patterns, verdicts)?;
+    Ok(found)
 }
 
 /// The patterns that are kept, and the verdicts by them.

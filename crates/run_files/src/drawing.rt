@@ -2,23 +2,17 @@
 //!
 //! Of a batch those are taken that are the last to detect several of the faults that are left. What only others detect is searched after all: cubes
 //! of tests are merged, and a pattern of many cubes detects more of it than one that was drawn.
-ghost use Rattle.std.specs.Prelude.{◌≡◌, ◌+◌, ◌*◌, ◌≤◌, ◌^◌, ℕ, IfOk, length, map};
-ghost use Rattle.std.specs.List.{All};
-ghost use Rattle.statement.specs.declared.lines.Fault.{Fault as FaultOf};
-ghost use Rattle.statement.specs.Netlists.{Netlist as Equations};
-ghost use Rattle.statement.specs.Patterns.{Holds as Held};
-ghost use Rattle.netlist.specs.Holds.{AreHoldsOf};
-ghost use Rattle.netlist.specs.Lines.{IsLineOf};
-ghost use Rattle.cubes.specs.Cubes.{IsCubeOf, IsPatternOf};
-ghost use Rattle.run_files.specs.inner.Open.{held_value, open_cube};
-ghost use Rattle.run_files.specs.inner.Plans.{AreFaultsOf, MayRun};
+ghost use Rattle.std.specs.Prelude.{◌≡◌, ◌+◌, ◌^◌, IfOk};
+ghost use Rattle.run_files.specs.inner.Batches.{AreNumbered, AreOfCube, AreRest, AreSome, AreWithNumbers, IsBatch, IsNext, IsSoFar, MayDraw, MaySimulate};
+ghost use Rattle.run_files.specs.inner.Plans.{AreFaultsOf, AreFew, MayRun};
 
 use crate::asked::RunPlan;
-use cubes::{Cube, Pattern, fill};
+use crate::searching::{Left, with_behind};
+use cubes::{Cube, Pattern, fill, open_cube};
 use evidence::Engine;
 use flat_netlist::number_of;
 use list_core::{Goal, kept};
-use netlist::{Core, Fault, Holds, NoMemory, Tri};
+use netlist::{Fault, NoMemory};
 use outside::{Gate, Stage};
 use rand_core::Rng;
 use rand_pcg::Lcg64Xsh32;
@@ -42,44 +36,9 @@ const LEAST: usize = 64;
 /// So many batches at most. As each but the last leaves 63 in 64 faults at most, no run comes to so many.
 const MOST: usize = 2048;
 
-/// Its bit, where an input is held.
-fn value_of(bit: Option<bool>) -> Tri
-    ensures { result ≡ held_value bit }
-{
-    match bit {
-        Some(true) => Tri::One,
-        Some(false) => Tri::Zero,
-        None => Tri::X,
-    }
-}
-
-/// A value for each input: an X where it isn't held.
-fn values_of(alloc: Global, holds: &Holds, inputs: u32) -> Result<Vec<Tri>, AllocError>
-    requires { length holds.now ≡ inputs }
-    ensures { IfOk result (λ v. v.items ≡ map held_value holds.now) }
-{
-    let mut values = Vec::with_capacity(alloc, inputs as usize)?;
-    for input in 0..inputs {
-        values.push(value_of(holds.held(input)))?;
-    }
-    Ok(values)
-}
-
-/// The cube that leaves each bit open but those of held inputs.
-fn open_cube(alloc: Global, core: &Core, holds: &Holds) -> Result<Cube, AllocError>
-    requires { AreHoldsOf core.now holds.now }
-    ensures { IfOk result (λ c. c ≡ open_cube core.now holds.now) }
-{
-    core.netlist().sound();
-    let inputs = values_of(alloc, holds, core.netlist().inputs().len() as u32)?;
-    let cells = vec![in alloc; Tri::X; core.netlist().cells().len()]?;
-    Ok(Cube::new(inputs, cells))
-}
-
 /// A batch of patterns of the cube, each filled from the words that those before it leave.
 fn drawn_batch<N: Rng>(alloc: Global, cube: &Cube, rng: &mut N) -> Result<Vec<Pattern>, NoMemory>
-    ensures count { IfOk result (λ v. length v.items ≡ 64) }
-    ensures obey { IfOk result (λ v. (n : Equations) (holds : Held) → IsCubeOf n holds cube.now → All (IsPatternOf n holds) v.items) }
+    ensures { IfOk result (λ v. AreOfCube cube.now v.items) }
 {
     let mut patterns = Vec::with_capacity(alloc, BATCH)?;
     for _drawn in 0..BATCH {
@@ -124,7 +83,7 @@ fn left_after(
     hits: &[Hit],
     marks: &[bool],
 ) -> Result<Vec<(u32, Fault)>, AllocError>
-    ensures { IfOk result (λ v. (n : Equations) → All (λ (g : ℕ × FaultOf). IsLineOf n g.1.line) left.now → All (λ (g : ℕ × FaultOf). IsLineOf n g.1.line) v.items) }
+    ensures { IfOk result (λ v. AreRest left.now v.items) }
 {
     let mut rest = Vec::new(alloc);
     let mut next = 0;
@@ -140,13 +99,53 @@ fn left_after(
 
 /// The faults with their numbers.
 fn numbered(alloc: Global, faults: &[Fault]) -> Result<Vec<(u32, Fault)>, AllocError>
-    ensures { IfOk result (λ v. (n : Equations) → All (λ (f : FaultOf). IsLineOf n f.line) faults.now → All (λ (g : ℕ × FaultOf). IsLineOf n g.1.line) v.items) }
+    ensures { IfOk result (λ v. AreWithNumbers faults.now v.items) }
 {
     let mut all = Vec::with_capacity(alloc, faults.len())?;
     for k in 0..faults.len() {
         all.push((number_of(k), faults[k]))?;
     }
     Ok(all)
+}
+
+/// The marked patterns.
+fn marked_patterns(
+    alloc: Global,
+    drawn: Vec<Pattern>,
+    marks: &[bool],
+) -> Result<Vec<Pattern>, AllocError>
+    ensures { IfOk result (λ v. AreSome drawn.items v.items) }
+{
+    kept(alloc, drawn, marks)
+}
+
+/// Of drawn patterns those that enough hits name, and the faults that they leave.
+fn taken_of(
+    alloc: Global,
+    drawn: Vec<Pattern>,
+    left: &[(u32, Fault)],
+    hits: &[Hit],
+) -> Result<(Vec<Pattern>, Vec<(u32, Fault)>), AllocError>
+    ensures taken { IfOk result (λ r. AreSome drawn.items r.0.items) }
+    ensures rest { IfOk result (λ r. AreRest left.now r.1.items) }
+{
+    let marks = worth_marks(alloc, hits)?;
+    let rest = left_after(alloc, left, hits, &marks)?;
+    let taken = marked_patterns(alloc, drawn, &marks)?;
+    Ok((taken, rest))
+}
+
+/// Which of these patterns detect which of these faults.
+fn hits_of<E: Engine, G: Gate, R: Threads + Sync>(
+    errand: &Errand<'_, E, G, R>,
+    simulators: &mut Simulators<'_>,
+    drawn: &[Pattern],
+    left: &[(u32, Fault)],
+) -> Result<Vec<Hit>, NoMemory>
+    requires batch { MaySimulate simulators.old drawn.now left.now }
+    ensures simulators { simulators.new ≡ simulators.old }
+{
+    simulators.hits(errand.rt, errand.alloc, drawn, left)
 }
 
 /// Of a batch the patterns that are taken, and the faults that they leave.
@@ -157,20 +156,14 @@ fn draw_batch<N: Rng, E: Engine, G: Gate, R: Threads + Sync>(
     left: &[(u32, Fault)],
     rng: &mut N,
 ) -> Result<(Vec<Pattern>, Vec<(u32, Fault)>), NoMemory>
-    requires lines { All (λ (g : ℕ × FaultOf). IsLineOf simulators.old g.1.line) left.now }
-    requires cube { (holds : Held) × IsCubeOf simulators.old holds cube.now }
-    ensures obey { IfOk result (λ r. (holds : Held) → IsCubeOf simulators.old holds cube.now → All (IsPatternOf simulators.old holds) r.0.items) }
-    ensures few { IfOk result (λ r. length r.0.items ≤ 64) }
-    ensures lines { IfOk result (λ r. All (λ (g : ℕ × FaultOf). IsLineOf simulators.old g.1.line) r.1.items) }
+    requires drawing { MayDraw errand.now.core.now errand.now.holds.now cube.now simulators.old }
+    requires lines { AreNumbered errand.now.core.now left.now }
+    ensures batch { IfOk result (λ r. IsBatch errand.now.core.now errand.now.holds.now r.0.items r.1.items) }
     ensures simulators { simulators.new ≡ simulators.old }
 {
-    let alloc = errand.alloc;
-    let drawn = drawn_batch(alloc, cube, rng)?;
-    let hits = simulators.hits(errand.rt, alloc, &drawn, left)?;
-    let marks = worth_marks(alloc, &hits)?;
-    let rest = left_after(alloc, left, &hits, &marks)?;
-    let taken = kept(alloc, drawn, &marks)?;
-    Ok((taken, rest))
+    let drawn = drawn_batch(errand.alloc, cube, rng)?;
+    let hits = hits_of(errand, simulators, &drawn, left)?;
+    Ok(taken_of(errand.alloc, drawn, left, &hits)?)
 }
 
 /// What these faults weigh together.
@@ -205,6 +198,45 @@ fn is_last(before: usize, left: usize) -> bool {
     left == 0 || before.saturating_sub(left) < before.div_ceil(LEAST)
 }
 
+/// What has been drawn and taken so far, the faults that it leaves, and whether the last batch was the last.
+#[derive(Drop)]
+struct Drawn {
+    patterns: Vec<Pattern>,
+    left: Vec<(u32, Fault)>,
+    is_over: bool,
+}
+
+/// With one batch more.
+#[tactic(auto, using(crate::proofs::DrawLemmas::numbered_lent))]
+fn with_batch<N: Rng, E: Engine, G: Gate, R: Threads + Sync>(
+    errand: &Errand<'_, E, G, R>,
+    simulators: &mut Simulators<'_>,
+    cube: &Cube,
+    drawn: Drawn,
+    rng: &mut N,
+) -> Result<Drawn, NoMemory>
+    requires drawing { MayDraw errand.now.core.now errand.now.holds.now cube.now simulators.old }
+    requires so_far { IsSoFar errand.now.core.now errand.now.holds.now drawn.patterns.items drawn.left.items }
+    ensures next { IfOk result (λ d. IsNext errand.now.core.now errand.now.holds.now drawn.patterns.items d.patterns.items d.left.items) }
+    ensures simulators { simulators.new ≡ simulators.old }
+{
+    let Drawn { patterns, left, .. } = drawn;
+    let (more, rest) = draw_batch(errand, simulators, cube, &left, rng)?;
+    let patterns = with_behind(patterns, more)?;
+    let is_over = is_last(left.len(), rest.len());
+    errand.stage.at(
+        0,
+        Stage::Published {
+            undetected: rest.len() as u64,
+        },
+    );
+    Ok(Drawn {
+        patterns,
+        left: rest,
+        is_over,
+    })
+}
+
 /// Patterns of the cube that detect many of these faults, batch after batch, until one detects few, or enough are detected.
 fn draw_batches<N: Rng, E: Engine, G: Gate, R: Threads + Sync>(
     errand: &Errand<'_, E, G, R>,
@@ -214,50 +246,60 @@ fn draw_batches<N: Rng, E: Engine, G: Gate, R: Threads + Sync>(
     goal: Option<&Goal>,
     rng: &mut N,
 ) -> Result<Vec<Pattern>, NoMemory>
-    requires lines { All (λ (g : ℕ × FaultOf). IsLineOf simulators.old g.1.line) faults.items }
-    requires cube { (holds : Held) × IsCubeOf simulators.old holds cube.now }
-    ensures obey { IfOk result (λ v. (holds : Held) → IsCubeOf simulators.old holds cube.now → All (IsPatternOf simulators.old holds) v.items) }
-    ensures few { IfOk result (λ v. length v.items ≤ 2 ^ 17) }
+    requires drawing { MayDraw errand.now.core.now errand.now.holds.now cube.now simulators.old }
+    requires lines { AreNumbered errand.now.core.now faults.items }
+    ensures { IfOk result (λ v. AreFew errand.now.core.now errand.now.holds.now (2 ^ 17 + 1) v.items) }
 {
     let all = whole_weight(goal, &faults);
-    let mut is_over = faults.is_empty();
-    let mut left = faults;
-    let mut patterns = Vec::new(errand.alloc);
+    let is_over = faults.is_empty();
+    let mut drawn = Drawn {
+        patterns: Vec::new(errand.alloc),
+        left: faults,
+        is_over,
+    };
     for _batch in 0..MOST {
-        if is_over || is_enough(goal, all, &left) {
+        if drawn.is_over || is_enough(goal, all, &drawn.left) {
             break;
         }
-        let (mut more, rest) = draw_batch(errand, simulators, cube, &left, rng)?;
-        patterns.append(&mut more)?;
-        is_over = is_last(left.len(), rest.len());
-        left = rest;
-        errand.stage.at(
-            0,
-            Stage::Published {
-                undetected: left.len() as u64,
-            },
-        );
+        drawn = with_batch(errand, simulators, cube, drawn, rng)?;
     }
-    Ok(patterns)
+    Ok(drawn.patterns)
 }
 
-/// Patterns that obey the held inputs and detect many of these faults.
+/// Patterns that obey the held inputs and detect many of the faults that are left.
+fn drawn_by<N: Rng, E: Engine, G: Gate, R: Threads + Sync>(
+    errand: &Errand<'_, E, G, R>,
+    plan: RunPlan,
+    left: &Left,
+    rng: &mut N,
+) -> Result<Vec<Pattern>, NoMemory>
+    requires ready { MayRun errand.now.core.now errand.now.holds.now plan }
+    requires faults { AreFaultsOf errand.now.core.now left.now.faults.items }
+    ensures { IfOk result (λ v. AreFew errand.now.core.now errand.now.holds.now (2 ^ 17 + 1) v.items) }
+{
+    let cube = open_cube(errand.alloc, errand.core, errand.holds)?;
+    let faults = numbered(errand.alloc, &left.faults)?;
+    let mut simulators = Simulators::new(errand.alloc, errand.core, plan.workers)?;
+    draw_batches(
+        errand,
+        &mut simulators,
+        &cube,
+        faults,
+        left.goal.as_ref(),
+        rng,
+    )
+}
+
+/// The same, from the plan's seed.
 pub(crate) fn drawn_patterns<E: Engine, G: Gate, R: Threads + Sync>(
     errand: &Errand<'_, E, G, R>,
     plan: RunPlan,
-    faults: &[Fault],
-    goal: Option<&Goal>,
+    left: &Left,
 ) -> Result<Vec<Pattern>, NoMemory>
     requires ready { MayRun errand.now.core.now errand.now.holds.now plan }
-    requires faults { AreFaultsOf errand.now.core.now faults.now }
-    ensures obey { IfOk result (λ v. All (IsPatternOf errand.now.core.now errand.now.holds.now) v.items) }
-    ensures few { IfOk result (λ v. length v.items ≤ 2 ^ 17) }
+    requires faults { AreFaultsOf errand.now.core.now left.now.faults.items }
+    ensures { IfOk result (λ v. AreFew errand.now.core.now errand.now.holds.now (2 ^ 17 + 1) v.items) }
 {
-    let alloc = errand.alloc;
-    let core = errand.core;
-    let cube = open_cube(alloc, core, errand.holds)?;
-    let left = numbered(alloc, faults)?;
-    let mut simulators = Simulators::new(alloc, core, plan.workers)?;
     let mut rng = Lcg64Xsh32::new(plan.seed, STREAM);
-    draw_batches(errand, &mut simulators, &cube, left, goal, &mut rng)
+    drawn_by(errand, plan, left, &mut rng)
 }

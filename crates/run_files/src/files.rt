@@ -1,6 +1,8 @@
 //! From a design to its five files.
 ghost use Rattle.std.specs.Prelude.{◌≡◌, ◌<◌, ◌≤◌, ◌^◌, IfOk, length};
 ghost use Rattle.std.specs.List.{All};
+ghost use Rattle.certificate.specs.Certificates.{IsNamed};
+ghost use Rattle.run_files.specs.inner.Verdicts.{leaves_of};
 ghost use Rattle.plain_text.specs.Limits.{most_limit};
 ghost use Rattle.netlist.specs.Designs.{IsDesign};
 ghost use Rattle.cubes.specs.Cubes.{IsPatternOf};
@@ -9,6 +11,7 @@ ghost use Rattle.scan_insert.specs.Scanned.{scanned_of};
 ghost use Rattle.run_files.specs.Runs.{IsRun, asked_by};
 ghost use Rattle.statement.specs.Faults.{universe_of};
 ghost use Rattle.run_files.specs.inner.Cases.{AreFoundOf, IsCase};
+ghost use Rattle.run_files.specs.inner.Laws.{IsFinished, MayMake};
 ghost use Rattle.run_files.specs.inner.Written.{IsMadeOf, IsWritten};
 ghost use Rattle.run_files.specs.inner.Reports.{AreTimes, IsSaid};
 ghost use Rattle.report.specs.Reports.{AreCounted};
@@ -46,6 +49,7 @@ pub struct RunFiles {
 }
 
 /// What the report says of these verdicts.
+#[tactic(auto, using(crate::proofs::WrittenLemmas::said_is))]
 fn said_of(
     case: &Case<'_>,
     scanned: &Netlist,
@@ -59,10 +63,10 @@ fn said_of(
     ensures said { IfOk result (IsSaid case.now.netlist.now case.now.chains.now case.now.holds.now case.now.subject.now.classes case.now.plan.limit case.now.asked.now found.now.patterns.items found.now.verdicts.items) }
     ensures times { IfOk result (λ said. said.times ≡ times) }
 {
-    case.netlist.sound();
     let pins = pin_names(case.alloc, scanned)?;
-    let lines = lines_of(case, &pins, found.verdicts.as_slice())?;
-    report_of(case, found.patterns.as_slice().len() as u32, times, lines)
+    let lines = lines_of(case, &pins, found)?;
+    let said = report_of(case, found.patterns.as_slice().len() as u32, times, lines)?;
+    Ok(said)
 }
 
 /// What the report says, and how often each fault is detected, where that is counted.
@@ -77,7 +81,7 @@ fn counted_and_said(
     ensures said { IfOk result (IsSaid case.now.netlist.now case.now.chains.now case.now.holds.now case.now.subject.now.classes case.now.plan.limit case.now.asked.now found.now.patterns.items found.now.verdicts.items) }
     ensures counted { IfOk result (λ said. AreTimes case.now.netlist.now found.now.patterns.items case.now.plan.times said.times) }
 {
-    let times = times_said(case, found.patterns.as_slice())?;
+    let times = times_said(case, found)?;
     said_of(case, scanned, found, times)
 }
 
@@ -88,7 +92,7 @@ fn with_report(
     test: TestTexts,
     said: Report,
 ) -> Result<RunFiles, NoMemory>
-    ensures { IfOk result (IsMadeOf netlists.net.items netlists.scan.items test.stil.items test.certificate.items said) }
+    ensures { IfOk result (IsMadeOf netlists test said) }
 {
     said.sound();
     let report = write_report(alloc, &said)?;
@@ -102,6 +106,16 @@ fn with_report(
     })
 }
 
+/// The evidence of what was found is of faults of the netlist.
+fn all_named(case: &Case<'_>, found: &Finished)
+    requires case { IsCase case.now }
+    requires found { AreFoundOf case.now found.now }
+    ensures { All (IsNamed case.now.netlist.now) (leaves_of case.now.subject.now.classes.representatives found.now.verdicts.items) }
+{
+    case.netlist.sound();
+    faults_have_signals();
+}
+
 /// The texts of what was found, where the netlist has been scanned.
 fn texts_beside(case: &Case<'_>, scanned: &Netlist, found: Finished) -> Result<RunFiles, NoMemory>
     requires case { IsCase case.now }
@@ -109,22 +123,57 @@ fn texts_beside(case: &Case<'_>, scanned: &Netlist, found: Finished) -> Result<R
     requires found { AreFoundOf case.now found }
     ensures { IfOk result (IsWritten case.now.netlist.now case.now.holds.now case.now.chains.now case.now.subject.now.classes case.now.plan.limit case.now.plan.times case.now.asked.now found.patterns.items found.verdicts.items) }
 {
-    case.netlist.sound();
-    faults_have_signals();
+    all_named(case, &found);
     let said = counted_and_said(case, scanned, &found)?;
     let netlists = netlist_texts(case.alloc, case.netlist, scanned)?;
     let test = test_texts(case, found)?;
-    with_report(case.alloc, netlists, test, said)
+    let files = with_report(case.alloc, netlists, test, said)?;
+    Ok(files)
 }
 
 /// The texts of what was found.
+#[tactic(auto, using(crate::proofs::WrittenLemmas::scanned_lent))]
 fn texts_of(case: &Case<'_>, found: Finished) -> Result<RunFiles, NoMemory>
     requires case { IsCase case.now }
     requires found { AreFoundOf case.now found }
     ensures { IfOk result (IsWritten case.now.netlist.now case.now.holds.now case.now.chains.now case.now.subject.now.classes case.now.plan.limit case.now.plan.times case.now.asked.now found.patterns.items found.verdicts.items) }
 {
     let scanned = insert(case.alloc, case.netlist, case.chains)?;
-    texts_beside(case, scanned.netlist(), found)
+    let files = texts_beside(case, scanned.netlist(), found);
+    drop(scanned);
+    files
+}
+
+/// The files of a design, made of what a search finds.
+#[tactic(auto, using(crate::proofs::WrittenLemmas::finished))]
+fn files_made<R: Threads + Wait + Sync, E: Engine + Sync, G: Gate + Sync>(
+    errand: &Errand<'_, E, G, R>,
+    plan: RunPlan,
+    wanted: Wanted,
+) -> Result<RunFiles, NoMemory>
+    requires may { MayMake errand.now.core.now errand.now.holds.now plan wanted }
+    ensures { IfOk result (IsFinished errand.now.core.now errand.now.holds.now E.refutes plan wanted) }
+{
+    let netlist = errand.core.netlist();
+    netlist.sound();
+    let chains = stitched(errand.alloc, netlist, plan.chains)?;
+    let subject = subject_of(errand.alloc, netlist)?;
+    let Wanted { faults, first } = wanted;
+    let found = search(errand, plan, &subject.classes, &faults, first)?;
+    let case = Case {
+        alloc: errand.alloc,
+        core: errand.core,
+        netlist,
+        holds: errand.holds,
+        plan,
+        chains: &chains,
+        subject: &subject,
+        asked: &faults,
+    };
+    let files = texts_of(&case, found);
+    drop(subject);
+    drop(chains);
+    Ok(files?)
 }
 
 /// Makes the five files of a design: workers search and compact, and all texts are written. Whatever the number of workers and the
@@ -145,23 +194,8 @@ pub fn make_files<R: Threads + Wait + Sync, E: Engine + Sync, G: Gate + Sync>(
     requires few { length wanted.first.items < 2 ^ 27 }
     ensures { IfOk result (IsRun errand.now.core.now (asked_by plan wanted errand.now.holds.now E.refutes)) }
 {
-    let netlist = errand.core.netlist();
-    netlist.sound();
-    let chains = stitched(errand.alloc, netlist, plan.chains)?;
-    let subject = subject_of(errand.alloc, netlist)?;
-    let Wanted { faults, first } = wanted;
-    let found = search(errand, plan, &subject.classes, &faults, first)?;
-    let case = Case {
-        alloc: errand.alloc,
-        core: errand.core,
-        netlist,
-        holds: errand.holds,
-        plan,
-        chains: &chains,
-        subject: &subject,
-        asked: &faults,
-    };
-    let files = texts_of(&case, found)?;
+    errand.core.netlist().sound();
     written_is_run();
+    let files = files_made(errand, plan, wanted)?;
     Ok(files)
 }

@@ -1,23 +1,23 @@
 //! What the patterns detect that a run begins with.
-ghost use Rattle.std.specs.Prelude.{◌≡◌, ◌+◌, ◌<◌, ◌≤◌, ◌^◌, IfOk, length, map};
-ghost use Rattle.std.specs.Option.{is_some};
+ghost use Rattle.std.specs.Prelude.{◌≡◌, ◌+◌, ◌<◌, ◌≤◌, ◌^◌, IfOk, length};
 ghost use Rattle.std.specs.List.{All};
 ghost use Rattle.cubes.specs.Cubes.{IsPatternOf};
 ghost use Rattle.run_files.specs.inner.Plans.{AreFaultsOf, MayRun};
-ghost use Rattle.run_files.specs.inner.Searches.{AreDetectedMarks};
+ghost use Rattle.run_files.specs.inner.Searches.{AreDetectedMarks, AreMarksOf};
 
 use crate::asked::RunPlan;
+use crate::last::last_told;
 use cubes::Pattern;
 use evidence::Engine;
 use netlist::{Fault, NoMemory, Point};
 use outside::Gate;
 use std::alloc::{AllocError, Global};
 use std::thread::Threads;
-use worker::{Errand, last_tells_beside};
+use worker::Errand;
 
 /// Marks the faults of which something is told.
 fn told_marks(alloc: Global, told: &[Option<(u32, Point)>]) -> Result<Vec<bool>, AllocError>
-    ensures { IfOk result (λ v. v.items ≡ map is_some told.now) }
+    ensures { IfOk result (λ v. AreMarksOf told.now v.items) }
 {
     let mut marks = Vec::with_capacity(alloc, told.len())?;
     for one in told {
@@ -27,6 +27,7 @@ fn told_marks(alloc: Global, told: &[Option<(u32, Point)>]) -> Result<Vec<bool>,
 }
 
 /// Marks the faults that some pattern detects. Where there are no patterns nothing is simulated.
+#[tactic(auto, using(crate::proofs::FoundLemmas::told_detected))]
 pub(crate) fn detected_marks<E: Engine, G: Gate, R: Threads + Sync>(
     errand: &Errand<'_, E, G, R>,
     plan: RunPlan,
@@ -39,17 +40,9 @@ pub(crate) fn detected_marks<E: Engine, G: Gate, R: Threads + Sync>(
     requires few { length patterns.now + 64 ≤ 2 ^ 32 }
     ensures { IfOk result (λ v. AreDetectedMarks errand.now.core.now patterns.now faults.now v.items) }
 {
-    let alloc = errand.alloc;
     if patterns.is_empty() {
-        return Ok(vec![in alloc; false; faults.len()]?);
+        return Ok(vec![in errand.alloc; false; faults.len()]?);
     }
-    let told = last_tells_beside(
-        errand.rt,
-        alloc,
-        errand.core,
-        faults,
-        patterns,
-        plan.workers,
-    )?;
-    Ok(told_marks(alloc, &told)?)
+    let told = last_told(errand, plan, faults, patterns)?;
+    Ok(told_marks(errand.alloc, &told)?)
 }

@@ -19,6 +19,7 @@ mod drawing;
 mod files;
 mod finding;
 mod first;
+mod last;
 mod leaves;
 mod lines;
 mod near;

@@ -5,15 +5,15 @@ ghost use Rattle.statement.specs.Netlists.{signals};
 ghost use Rattle.netlist.specs.Lines.{IsLineOf, signal_of};
 ghost use Rattle.scan_insert.specs.Scanned.{AreChainsOf};
 ghost use Rattle.statement.specs.Faults.{universe_of};
-ghost use Rattle.report.specs.Reports.{IsOutcome};
+ghost use Rattle.report.specs.Reports.{IsLine, IsOutcome};
 ghost use Rattle.list_core.specs.declared.verdicts.Verdict.{Verdict as VerdictOf};
-ghost use Rattle.run_files.specs.inner.Cases.{IsCase};
+ghost use Rattle.run_files.specs.inner.Cases.{AreFoundOf, IsCase};
 ghost use Rattle.run_files.specs.inner.Outcomes.{AreLines, ArePins, IsAdded, IsOutcomeOf, verdict_said};
 ghost use Rattle.run_files.specs.inner.Verdicts.{IsInside};
 
 use crate::case::Case;
 use fault_universe::{faults_have_lines, faults_have_signals, push_text};
-use list_core::Verdict;
+use list_core::{Finished, Verdict};
 use netlist::{Fault, NameTable, Netlist, NoMemory};
 use report::{FaultLines, Outcome};
 use run_report::sight_of;
@@ -120,13 +120,15 @@ fn lines_within(
 pub(crate) fn lines_of(
     case: &Case<'_>,
     pins: &NameTable,
-    verdicts: &[Verdict],
+    found: &Finished,
 ) -> Result<FaultLines, NoMemory>
     requires case { IsCase case.now }
     requires pins { ArePins case.now.netlist.now case.now.chains.now pins.now }
-    requires within { All (λ class. class < length verdicts.now) case.now.subject.now.classes.numbers }
-    requires inside { All (IsInside case.now.netlist.now) verdicts.now }
-    ensures { IfOk result (λ lines. AreLines case.now.netlist.now case.now.chains.now case.now.subject.now.classes.numbers case.now.asked.now verdicts.now (length (universe_of case.now.netlist.now)) lines) }
+    requires found { AreFoundOf case.now found.now }
+    ensures lines { IfOk result (λ lines. AreLines case.now.netlist.now case.now.chains.now case.now.subject.now.classes.numbers case.now.asked.now found.now.verdicts.items (length (universe_of case.now.netlist.now)) lines) }
+    ensures sound { IfOk result (All IsLine) }
 {
-    lines_within(case, pins, verdicts).map_err(|_| NoMemory)
+    case.netlist.sound();
+    let lines = lines_within(case, pins, found.verdicts.as_slice())?;
+    Ok(lines)
 }

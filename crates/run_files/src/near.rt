@@ -4,19 +4,17 @@
 //! (Clauses that forbid what is known would leave none out, and take a search for each pattern.)
 ghost use Rattle.std.specs.Prelude.{◌≡◌, ◌+◌, ◌≤◌, ◌^◌, IfOk, length};
 ghost use Rattle.std.specs.List.{All};
-ghost use Rattle.statement.specs.declared.lines.Fault.{Fault as FaultOf};
 ghost use Rattle.cubes.specs.Cubes.{IsPatternOf};
 ghost use Rattle.netlist.specs.Lines.{IsLineOf};
 ghost use Rattle.netlist.specs.Holds.{AreHoldsOf};
 ghost use Rattle.run_files.specs.inner.Plans.{AreFaultsOf, MayRun};
 
 use crate::asked::RunPlan;
+use crate::last::{last_few, last_told};
 use crate::repeating::unsettled;
 use cubes::Pattern;
-use detections::{LastFew, last_few_of};
 use evidence::Engine;
 use flat_netlist::number_of;
-use list_core::kept;
 use netlist::{Core, Fault, Holds, NoMemory, Point};
 use outside::Gate;
 use rand_core::Rng;
@@ -24,7 +22,7 @@ use rand_pcg::Lcg64Xsh32;
 use std::alloc::{AllocError, Global};
 use std::thread::Threads;
 use stil_patterns::are_patterns;
-use worker::{Errand, last_tells_beside};
+use worker::Errand;
 
 /// So many are tried for a fault: they are simulated at once.
 const TRIED: u32 = 64;
@@ -144,8 +142,8 @@ fn near_tests<N: Rng>(
     if !are_patterns(core.netlist(), turning.holds, &near) {
         return Ok(Vec::new(alloc));
     }
-    let LastFew { needed, .. } = last_few_of(alloc, core, &[*fault], &near, turning.most)?;
-    Ok(kept(alloc, near, &needed)?)
+    let tests = last_few(alloc, core, &[*fault], near, turning.most)?;
+    Ok(tests)
 }
 
 /// Those near to the last pattern that detects the fault, if one does.
@@ -179,7 +177,7 @@ fn all_near_tests<N: Rng>(
     rng: &mut N,
 ) -> Result<Vec<Pattern>, NoMemory>
     requires held { AreHoldsOf turning.now.core.now turning.now.holds.now }
-    requires lines { All (λ (f : FaultOf). IsLineOf turning.now.core.now f.line) faults.now }
+    requires faults { AreFaultsOf turning.now.core.now faults.now }
     requires size { length last.now ≡ length faults.now }
     ensures obey { IfOk result (λ v. All (IsPatternOf turning.now.core.now turning.now.holds.now) v.items) }
 {
@@ -192,6 +190,7 @@ fn all_near_tests<N: Rng>(
 }
 
 /// What is near to patterns that detect a fault, of the faults that some of these detect, but too few.
+#[tactic(auto, using(crate::proofs::FoundLemmas::faults_lent, crate::proofs::NearLemmas::told_size))]
 pub(crate) fn found_near<E: Engine, G: Gate, R: Threads + Sync>(
     errand: &Errand<'_, E, G, R>,
     plan: RunPlan,
@@ -207,7 +206,7 @@ pub(crate) fn found_near<E: Engine, G: Gate, R: Threads + Sync>(
     let alloc = errand.alloc;
     let core = errand.core;
     let left = unsettled(alloc, core, faults, patterns, plan.times)?;
-    let last = last_tells_beside(errand.rt, alloc, core, &left, patterns, plan.workers)?;
+    let last = last_told(errand, plan, &left, patterns)?;
     let free = free_places(alloc, core, errand.holds)?;
     let mut rng = Lcg64Xsh32::new(plan.seed, STREAM);
     let turning = Turning {

@@ -56,6 +56,7 @@ pub(crate) fn unsettled(
 }
 
 /// What a search of the faults finds that some of these patterns detect, but too few.
+#[tactic(auto, using(crate::proofs::FoundLemmas::faults_lent))]
 fn found_again<E: Engine + Sync, G: Gate + Sync, R: Threads + Wait + Sync>(
     errand: &Errand<'_, E, G, R>,
     plan: RunPlan,

@@ -3,15 +3,14 @@ ghost use Rattle.std.specs.Prelude.{◌≡◌, ◌<◌, IfOk, length, map, slice
 ghost use Rattle.std.specs.List.{All};
 ghost use Rattle.statement.specs.Faults.{universe_of};
 ghost use Rattle.report.specs.Reports.{AreCounted, IsLine};
-ghost use Rattle.word_sim.specs.Words.{HasWidthsOf};
-ghost use Rattle.run_files.specs.inner.Cases.{IsCase};
+ghost use Rattle.run_files.specs.inner.Cases.{AreFoundOf, IsCase};
 ghost use Rattle.run_files.specs.inner.Reports.{AreTimes, IsReported};
 
 use crate::case::Case;
 use crate::searching::represented;
-use cubes::Pattern;
 use detections::{times_alike, times_of};
 use fault_collapse::{Classes, detected_alike};
+use list_core::Finished;
 use netlist::NoMemory;
 use report::{FaultLines, Report, Times};
 use run_report::{counts_of, hold_lines, share_of, tally_of};
@@ -36,10 +35,10 @@ fn by_class(
 }
 
 /// How many of the patterns detect each fault, counted to so many, where more than one is asked for: as many as detect its class's representative.
-pub(crate) fn times_said(case: &Case<'_>, patterns: &[Pattern]) -> Result<Times, NoMemory>
+pub(crate) fn times_said(case: &Case<'_>, found: &Finished) -> Result<Times, NoMemory>
     requires case { IsCase case.now }
-    requires wide { All (HasWidthsOf case.now.netlist.now) patterns.now }
-    ensures { IfOk result (AreTimes case.now.netlist.now patterns.now case.now.plan.times) }
+    requires found { AreFoundOf case.now found.now }
+    ensures { IfOk result (AreTimes case.now.netlist.now found.now.patterns.items case.now.plan.times) }
 {
     let alloc = case.alloc;
     let most = case.plan.times;
@@ -51,6 +50,7 @@ pub(crate) fn times_said(case: &Case<'_>, patterns: &[Pattern]) -> Result<Times,
     represented(case.core, classes);
     detected_alike();
     times_alike();
+    let patterns = found.patterns.as_slice();
     let numbers = times_of(alloc, case.core, classes.representatives(), patterns, most)?;
     let of = by_class(alloc, classes, case.subject.faults.len(), &numbers)?;
     Ok(Times::new(most as u64, of))

@@ -2,7 +2,6 @@
 ghost use Rattle.std.specs.Prelude.{◌≡◌, ◌≤◌, IfOk, length};
 ghost use Rattle.std.specs.List.{All};
 ghost use Rattle.statement.specs.declared.lines.Fault.{Fault};
-ghost use Rattle.statement.specs.Benches.{canonical};
 ghost use Rattle.netlist.specs.Designs.{IsDesign};
 ghost use Rattle.cubes.specs.Cubes.{IsPatternOf};
 ghost use Rattle.netlist.specs.Holds.{AreHoldsOf};
@@ -11,7 +10,7 @@ ghost use Rattle.evidence.specs.declared.kinds.Evidence.{Evidence};
 ghost use Rattle.certificate.specs.Certificates.{HasSmallNumbers, IsNamed, certificate_text};
 ghost use Rattle.run_files.specs.inner.Cases.{AreFoundOf, IsCase};
 ghost use Rattle.run_files.specs.inner.Verdicts.{leaves_of};
-ghost use Rattle.run_files.specs.inner.Written.{IsTestText};
+ghost use Rattle.run_files.specs.inner.Written.{AreNetlistTexts, AreTestTexts, IsTestText};
 
 use crate::case::Case;
 use crate::leaves::leaves_of;
@@ -45,8 +44,7 @@ pub(crate) fn netlist_texts(
     netlist: &Netlist,
     scanned: &Netlist,
 ) -> Result<NetlistTexts, NoMemory>
-    ensures net { IfOk result (λ texts. texts.net.items ≡ canonical netlist.now) }
-    ensures scan { IfOk result (λ texts. texts.scan.items ≡ canonical scanned.now) }
+    ensures { IfOk result (AreNetlistTexts netlist.now scanned.now) }
 {
     let net = write(alloc, netlist)?;
     let scan = write(alloc, scanned)?;
@@ -93,9 +91,7 @@ pub(crate) fn test_texts(case: &Case<'_>, found: Finished) -> Result<TestTexts, 
     requires case { IsCase case.now }
     requires found { AreFoundOf case.now found }
     requires named { All (IsNamed case.now.netlist.now) (leaves_of case.now.subject.now.classes.representatives found.verdicts.items) }
-    ensures stil { IfOk result (λ texts. IsTestText case.now.netlist.now case.now.holds.now case.now.chains.now found.patterns.items texts.stil.items) }
-    ensures certificate { IfOk result (λ texts. texts.certificate.items ≡ certificate_text case.now.netlist.now (leaves_of case.now.subject.now.classes.representatives found.verdicts.items)) }
-    ensures within { IfOk result (λ texts. All (λ (p : Fault × Evidence). HasSmallNumbers p.1) (leaves_of case.now.subject.now.classes.representatives found.verdicts.items)) }
+    ensures { IfOk result (AreTestTexts case.now.netlist.now case.now.holds.now case.now.chains.now case.now.subject.now.classes found.patterns.items found.verdicts.items) }
 {
     let alloc = case.alloc;
     let Finished { patterns, verdicts } = found;

@@ -2,9 +2,11 @@
 //!
 //! What is large is owned by one function, behind which one call borrows it, and is let go by `drop`, in one call. At the end of a scope each list in it
 //! would be let go apart, and each takes the prover a step.
-ghost use Rattle.std.specs.Prelude.{◌≡◌, ◌<◌, ◌≤◌, ◌+◌, ◌^◌, length, IfOk};
+ghost use Rattle.std.specs.Prelude.{◌≡◌, ◌<◌, ◌≤◌, ◌+◌, ◌^◌, length, map, IfOk};
 ghost use Rattle.bench_text.specs.Bytes.{lines};
 ghost use Rattle.scan_insert.specs.Scanned.{scanned_of};
+ghost use Rattle.statement.specs.Runs.{output_name};
+ghost use Rattle.transition_frames.specs.Frames.{frame_names as names_of};
 ghost use Rattle.check_parts.specs.Scanning.{IsStitched};
 ghost use Rattle.good_files.specs.GoodFiles.{AreHeldBy};
 ghost use Rattle.good_files.specs.ScanOff.{design_chains};
@@ -25,7 +27,7 @@ use check_parts::{FiveTexts, Stitched, holds_by, scanned_as};
 use cubes::Pattern;
 use good_files::{CheckFault, Checked, Clause};
 use good_slow_files::slow_checked_is_good;
-use netlist::{Core, Holds, Netlist, NoMemory};
+use netlist::{Core, Holds, NameTable, Netlist, NoMemory};
 use run_report::pin_names;
 use std::alloc::Global;
 use stil_read::laws::items_take_bytes;
@@ -49,6 +51,55 @@ fn verdict_of(alloc: Global, walk: &Walk<'_>, said: &TransitionReport) -> Result
     Ok(Checked::Faults(count))
 }
 
+/// What is found of the test, by the names of its pins and of the signals of two frames.
+fn tried_by(
+    alloc: Global,
+    core: &Core,
+    trial: &SlowTrial<'_>,
+    pins: &NameTable,
+    names: &NameTable,
+    said: &TransitionReport,
+) -> Result<Checked, NoMemory>
+    requires trial { IsSlowTrial trial.now }
+    requires own { core.now ≡ trial.now.netlist.now }
+    requires pins { pins.now ≡ map (output_name (scanned_of trial.now.netlist.now trial.now.chains.now)) (scanned_of trial.now.netlist.now trial.now.chains.now).outputs }
+    requires names { names.now ≡ names_of trial.now.netlist.now }
+    ensures { IfOk result (IsVerdict (slow_test_of trial.now) said.now) }
+{
+    let findings = findings_of(alloc, core, trial)?;
+    let walk = Walk {
+        trial,
+        faults: &findings.faults,
+        pins,
+        names,
+        lasts: &findings.lasts,
+        firsts: &findings.firsts,
+        lines: &said.lines,
+    };
+    let verdict = verdict_of(alloc, &walk, said);
+    drop(findings);
+    verdict
+}
+
+/// The same, with the names of the signals of two frames made for it.
+fn tried_named(
+    alloc: Global,
+    core: &Core,
+    trial: &SlowTrial<'_>,
+    pins: &NameTable,
+    said: &TransitionReport,
+) -> Result<Checked, NoMemory>
+    requires trial { IsSlowTrial trial.now }
+    requires own { core.now ≡ trial.now.netlist.now }
+    requires pins { pins.now ≡ map (output_name (scanned_of trial.now.netlist.now trial.now.chains.now)) (scanned_of trial.now.netlist.now trial.now.chains.now).outputs }
+    ensures { IfOk result (IsVerdict (slow_test_of trial.now) said.now) }
+{
+    let names = frame_names(alloc, trial.netlist)?;
+    let verdict = tried_by(alloc, core, trial, pins, &names, said);
+    drop(names);
+    verdict
+}
+
 /// What is found of the test: its patterns are simulated in two frames, and its evidence is checked, once for each slow line that is left.
 fn tried(
     alloc: Global,
@@ -63,19 +114,8 @@ fn tried(
     ensures { IfOk result (IsVerdict (slow_test_of trial.now) said.now) }
 {
     let pins = pin_names(alloc, scanned)?;
-    let names = frame_names(alloc, trial.netlist)?;
-    let findings = findings_of(alloc, core, trial)?;
-    let walk = Walk {
-        trial,
-        faults: &findings.faults,
-        pins: &pins,
-        names: &names,
-        lasts: &findings.lasts,
-        firsts: &findings.firsts,
-        lines: &said.lines,
-    };
-    let verdict = verdict_of(alloc, &walk, said);
-    drop((pins, names, findings));
+    let verdict = tried_named(alloc, core, trial, &pins, said);
+    drop(pins);
     verdict
 }
 

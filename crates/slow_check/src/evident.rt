@@ -31,12 +31,13 @@ fn ends_of(
     requires formed { IsWellFormed (frames_of walk.now.trial.now.netlist.now fault) evidence.now }
     ensures { IfOk result (AreShown (ShowsFrames walk.now.trial.now.netlist.now walk.now.trial.now.holds.now fault evidence.now) evidence.now) }
 {
-    let (two, slow) = frames_named(alloc, walk.trial.netlist, walk.names, fault)?;
+    let trial = walk.trial;
+    let (two, slow) = frames_named(alloc, trial.netlist, walk.names, fault)?;
     let Ok(core) = Core::of(alloc, two) else {
         return Err(NoMemory);
     };
     core.netlist().sound();
-    let ends = ends_on(alloc, &core, walk.trial.holds, &slow, evidence);
+    let ends = ends_on(alloc, &core, trial.holds, &slow, evidence);
     drop(core);
     ends
 }
@@ -52,8 +53,9 @@ pub(crate) fn first_ends(
     ensures { IfOk result (AreFirstEnds (ShowsFrames walk.now.trial.now.netlist.now walk.now.trial.now.holds.now fault.now) walk.now.trial.now.evidence.now fault.now) }
 {
     faults_have_lines();
-    let evidence = walk.trial.evidence;
-    let Some(place) = walk.firsts.get(walk.trial.netlist, evidence, fault) else {
+    let trial = walk.trial;
+    let evidence = trial.evidence;
+    let Some(place) = walk.firsts.get(trial.netlist, evidence, fault) else {
         return Ok(None);
     };
     ends_of(alloc, walk, *fault, &evidence[place].1)

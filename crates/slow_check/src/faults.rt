@@ -20,10 +20,11 @@ fn further_fault(alloc: Global, walk: &Walk<'_>) -> Result<Option<Vec<u8>>, Allo
     ensures { IfOk result (λ o. MatchOption o (HasTrueLines walk.now) (λ text. IsFurtherText walk.now text.items)) }
 {
     let count = walk.faults.len() as usize;
-    if count >= walk.lines.len() {
+    let lines = walk.lines;
+    if count >= lines.len() {
         return Ok(None);
     }
-    Ok(Some(Vec::from_slice(alloc, walk.lines.get(count).fault)?))
+    Ok(Some(Vec::from_slice(alloc, lines.get(count).fault)?))
 }
 
 /// The text of a slow line.
@@ -44,12 +45,13 @@ fn stray_fault(alloc: Global, walk: &Walk<'_>) -> Result<Option<Vec<u8>>, AllocE
 {
     faults_have_signals();
     few_faults();
-    let evidence = walk.trial.evidence;
+    let trial = walk.trial;
+    let evidence = trial.evidence;
     let left = left_of(alloc, walk.faults, walk.lines)?;
     match first_stray(evidence, &left) {
         None => Ok(None),
         Some(place) => {
-            let text = text_of(alloc, walk.trial.netlist, evidence[place].0)?;
+            let text = text_of(alloc, trial.netlist, evidence[place].0)?;
             Ok(Some(text))
         }
     }

@@ -56,10 +56,11 @@ fn is_true_at(
     ensures { IfOk result (λ yes. MatchBool yes (IsTrueLine walk.now place) (¬ IsTrueLine walk.now place)) }
 {
     faults_have_signals();
-    if place as usize >= walk.lines.len() {
+    let lines = walk.lines;
+    if place as usize >= lines.len() {
         return Ok(false);
     }
-    let line = walk.lines.get(place as usize);
+    let line = lines.get(place as usize);
     let fault = walk.faults.fault(place);
     if !names(text, walk.trial.netlist, &fault, line)? {
         return Ok(false);

@@ -33,14 +33,17 @@ pub fn parts_with(
     let count = chains.count() as usize;
     let inputs = netlist.inputs().len();
     let po = output_names(alloc, netlist)?;
-    let Ok(pi) = input_names(alloc, netlist, count) else {
-        return Err(NoMemory);
+    let pi = match input_names(alloc, netlist, count) {
+        Ok(pi) => pi,
+        Err(_) => return Err(NoMemory),
     };
-    let Ok(names) = chain_names(alloc, netlist, chains) else {
-        return Err(NoMemory);
+    let names = match chain_names(alloc, netlist, chains) {
+        Ok(names) => names,
+        Err(_) => return Err(NoMemory),
     };
-    let Ok(word) = shift_word(alloc, inputs, holds, chains) else {
-        return Err(NoMemory);
+    let word = match shift_word(alloc, inputs, holds, chains) {
+        Ok(word) => word,
+        Err(_) => return Err(NoMemory),
     };
     Ok(StilParts {
         pi,

@@ -49,7 +49,9 @@ pub fn patterns_of(
     netlist.sound();
     let patterns = applied_patterns(alloc, netlist, chains, holds, file)?;
     let own = stil_of(alloc, core, chains, &patterns, holds)?;
-    match are_same(alloc, &own, file) {
+    let same = are_same(alloc, &own, file);
+    drop(own);
+    match same {
         Ok(true) => Ok(Some(patterns)),
         Ok(false) => Ok(None),
         Err(_) => Err(NoMemory),

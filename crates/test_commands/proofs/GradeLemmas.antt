@@ -1,10 +1,11 @@
 -- What `grade` reads, grades and says.
-use Rattle.std.proofs.Common.{◌≡◌, ◌∙◌, inl, inr, ℕ, List, [], ◌∷◌, Result, Ok, Err, Vec, refl, sym, subst, ap₂, length, get_or}
+use Rattle.std.proofs.Common.{◌≡◌, ◌∙◌, inl, inr, ℕ, List, [], ◌∷◌, Result, Ok, Err, Vec, refl, sym, subst, ap, ap₂, length, get_or}
 use Rattle.std.specs.List.{All, AllZip}
 use Rattle.std.specs.declared.alloc.Global.{Global}
 use Rattle.std.proofs.lemmas.List.Elements.{All-nil, All-cons}
 use Rattle.statement.specs.Benches.{Text}
 use Rattle.statement.specs.declared.lines.Fault.{Fault}
+use Rattle.statement.specs.Faults.{universe_of}
 use Rattle.statement.specs.Netlists.{Netlist}
 use Rattle.statement.specs.Runs.{Cycle}
 use Rattle.statement.specs.Stils.{StilFile}
@@ -12,11 +13,16 @@ use Rattle.statement.specs.Tests.{vectors_in}
 use Rattle.netlist.specs.Conditions.{IsSound}
 use Rattle.bench_text.specs.declared.refusal.Names.TheVariants.{Design}
 use Rattle.good_files.specs.ScanOff.{design_chains}
+use Rattle.scan_insert.specs.Laws.{ScannedIsSound}
+use Rattle.scan_insert.specs.Scanned.{Insertion, scanned_of, sites_of}
 use Rattle.scan_insert.specs.declared.sites.Site.{Site}
 use Rattle.scan_play.specs.Cycles.{IsCycleOf}
 use Rattle.stil_read.specs.Reading.{StandsFor}
+use Rattle.stil_write.specs.StilFiles.{IsStilFile}
+use Rattle.stil_vectors.specs.Fitting.{FitsNetlist}
+use Rattle.stil_vectors.specs.Laws.{FittingCycles}
 use Rattle.chain_test.specs.Hardware.{at_site}
-use Rattle.grade.specs.Grades.{IsGraded}
+use Rattle.grade.specs.Grades.{AreGrades, IsGraded}
 use Rattle.grade.specs.Laws.{DetectedFails, UndetectedPasses}
 use Rattle.grade.specs.declared.grade.Grade.{Grade}
 use Rattle.grade.specs.declared.grade.Grade.TheVariants.{Detected, Undetected, Unknown}
@@ -29,13 +35,13 @@ use Rattle.commands.specs.declared.product.Product.{Product}
 use Rattle.commands.specs.declared.product.Stop.{Stop}
 use Rattle.commands.specs.declared.product.Stop.TheVariants as stop
 use Rattle.test_commands.specs.ChainTests.{chaintest_due}
-use Rattle.test_commands.specs.Grades.{grade_due, IsGradeProduct, IsGradeTold}
+use Rattle.test_commands.specs.Grades.{AreGradesTold, grade_due, IsGradeProduct, IsGradeTold}
 use Rattle.command_steps.specs.Steps.{netlist, value}
 use Rattle.test_commands.specs.declared.chain_testing.ChainTrial.{ChainTrial}
 use Rattle.command_steps.specs.declared.refusal.Refusal.{Refusal}
 use Rattle.command_steps.specs.declared.refusal.Refusal.TheVariants.{NotStil}
 use Rattle.test_commands.specs.inner.ChainTrials.{IsChainTrial, ReadsChainTrial, bytes_due, fit_due, told_due}
-use Rattle.test_commands.specs.inner.GradeTrials.{IsGradeOutput, grade_bytes_due, grade_fit_due, graded_due}
+use Rattle.test_commands.specs.inner.GradeTrials.{IsGradeOutput, IsScannedIn, grade_bytes_due, grade_fit_due, graded_due}
 use Rattle.test_commands.proofs.PlayLemmas.{strobed_within}
 use Rattle.command_steps.proofs.StepLemmas.{then_worked, two_texts}
 
@@ -66,6 +72,22 @@ module _ (s : Netlist) (sound : IsSound s) (cycles : List Cycle) (fit : All (IsC
   all_grade_outputs sites (f ∷ fs) [] all = absurd all
   all_grade_outputs sites (f ∷ fs) (grade ∷ grades) all =
       All-cons (IsGradeOutput s) grade grades (one_grade_output (at_site sites f) grade all.0) (all_grade_outputs sites fs grades all.1)
+
+-- of a design's faults, on what insertion made of it
+pub told_grades : ScannedIsSound → FittingCycles → DetectedFails → UndetectedPasses → (n : Netlist) (asked : ℕ) (scanned : Insertion) (file : StilFile) → IsSound n → IsStilFile file
+    → IsScannedIn n asked scanned → FitsNetlist file scanned.netlist → (faults : List Fault) (grades : List Grade) → faults ≡ universe_of n → AreGrades scanned faults (vectors_in file) grades
+    → AreGradesTold n (design_chains n asked) (vectors_in file) grades × All (IsGradeOutput scanned.netlist) grades
+told_grades sounds fitting fails passes n asked scanned file sound stil is fits faults grades all graded =
+    let s = scanned_of n (design_chains n asked) in
+    let sites = sites_of n (design_chains n asked) in
+    let cycles = vectors_in file in
+    let same = ap (λ (i : Insertion). i.netlist) is.is_scanned in
+    let scan_sound : IsSound s = sounds n (design_chains n asked) sound is.design (record { asked = asked; some = is.some; are = refl }) in
+    let fit = fitting file s stil (subst (λ (m : Netlist). FitsNetlist file m) same fits) in
+    let each = subst (λ (i : Insertion). AreGrades i (universe_of n) cycles grades) is.is_scanned (subst (λ (fs : List Fault). AreGrades scanned fs cycles grades) all graded) in (
+      all_grades_told s scan_sound cycles fit fails passes sites (universe_of n) grades each,
+      subst (λ (m : Netlist). All (IsGradeOutput m) grades) (sym same) (all_grade_outputs s scan_sound cycles fit sites (universe_of n) grades each),
+    )
 
 -- the text and the line are due
 pub grades_deliver : (asked : ℕ) (n : Netlist) (file : StilFile) (text line : Text) (files : List Text) (shown : Text) (finding : Finding)

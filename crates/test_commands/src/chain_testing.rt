@@ -13,8 +13,9 @@ ghost use Rattle.commands.specs.Rows.{CommandRow};
 ghost use Rattle.commands.specs.Worked.{IsWorked};
 ghost use Rattle.commands.specs.World.{world};
 ghost use Rattle.test_commands.specs.ChainTests.{IsTold, chaintest_due};
-ghost use Rattle.test_commands.specs.inner.ChainTrials.{IsHardwareOf, IsOutput, IsTestText, ReadsChainTrial, test_due, text_due};
+ghost use Rattle.test_commands.specs.inner.ChainTrials.{IsHardwareOf, IsOutput, IsTestText, IsTextOf, ReadsChainTrial, test_due, text_due};
 
+use crate::cores::core_of;
 use crate::told_lines::chain_test_text;
 use bench_text::Names;
 use chain_test::{chain_faults, first_wrong_fails, first_wrongs, flush_fails};
@@ -53,7 +54,10 @@ pub(crate) fn trial_of(alloc: Global, net: &[u8], stil: &[u8]) -> Result<ChainTr
     };
     match stil_of(alloc, stil) {
         Ok(file) => Ok(ChainTrial { netlist, file }),
-        Err(stop) => Err(stop),
+        Err(stop) => {
+            drop(netlist);
+            Err(stop)
+        }
     }
 }
 
@@ -65,10 +69,15 @@ fn hardware_of(alloc: Global, netlist: &Netlist, asked: u32) -> Result<Hardware,
 {
     netlist.sound();
     few_faults();
-    let scanned = scanned_of(alloc, netlist, asked)?;
     let all = universe(alloc, netlist)?;
-    let faults = chain_faults(alloc, &scanned, &all)?;
-    Ok(Hardware { scanned, faults })
+    let scanned = scanned_of(alloc, netlist, asked)?;
+    match chain_faults(alloc, &scanned, &all) {
+        Ok(faults) => Ok(Hardware { scanned, faults }),
+        Err(refusal) => {
+            drop(scanned);
+            Err(refusal)
+        }
+    }
 }
 
 /// What the file shows of each of these faults.
@@ -95,6 +104,22 @@ fn told_of<G: Gate>(
     first_wrongs(alloc, stage, core, faults, &vectors)
 }
 
+/// The text of what the file shows of these faults.
+fn text_of<G: Gate>(
+    alloc: Global,
+    stage: &G,
+    core: &Core,
+    faults: &[Fault],
+    file: &StilFile,
+) -> Result<Vec<u8>, NoMemory>
+    requires fits { FitsNetlist file.now core.now }
+    requires signals { All (λ (f : Stuck). signal_of f.line < length (signals core.now)) faults.now }
+    ensures { IfOk result (λ text. IsTextOf core.now faults.now file.now text.items) }
+{
+    let told = told_of(alloc, stage, core, faults, file)?;
+    chain_test_text(alloc, core.netlist(), faults, &told)
+}
+
 /// The text of what the file shows of the scan hardware.
 fn test_text<G: Gate>(
     alloc: Global,
@@ -106,13 +131,10 @@ fn test_text<G: Gate>(
     requires signals { All (λ (f : Stuck). signal_of f.line < length (signals hardware.now.scanned.netlist)) hardware.now.faults.items }
     ensures { IfOk result (λ text. IsTestText hardware.now file.now text.items) }
 {
-    let netlist = hardware.scanned.netlist().copy(alloc)?;
-    let core = match Core::of(alloc, netlist) {
-        Ok(core) => core,
-        Err((refusal, _)) => return Err(refusal),
-    };
-    let told = told_of(alloc, stage, &core, &hardware.faults, file)?;
-    chain_test_text(alloc, core.netlist(), &hardware.faults, &told)
+    let core = core_of(alloc, hardware.scanned.netlist())?;
+    let text = text_of(alloc, stage, &core, &hardware.faults, file);
+    drop(core);
+    text
 }
 
 /// What the file, which fits, shows of the scan hardware of the design.
@@ -136,6 +158,28 @@ fn tested<G: Gate>(
     }
 }
 
+/// Tests the scan hardware of the design, if the file fits.
+fn fitted<G: Gate>(
+    alloc: Global,
+    stage: &G,
+    hardware: &Hardware,
+    trial: &ChainTrial,
+    asked: u32,
+) -> Result<Product, Stop<Refusal>>
+    requires some { 1 ≤ asked }
+    requires hardware { IsHardwareOf trial.now.netlist (design_chains trial.now.netlist asked) hardware.now }
+    ensures { IsWorked (test_due asked trial.now.netlist trial.now.file) 0 result }
+{
+    trial.netlist.sound();
+    faults_have_signals();
+    flush_fails();
+    hardware.scanned.netlist().sound();
+    match fitting(alloc, &trial.file, hardware.scanned.netlist()) {
+        Ok(()) => tested(alloc, stage, hardware, &trial.file),
+        Err(stop) => Err(stop),
+    }
+}
+
 /// Puts scan cells into the design, and tests them if the file fits.
 fn tried<G: Gate>(
     alloc: Global,
@@ -147,16 +191,13 @@ fn tried<G: Gate>(
     requires some { 1 ≤ asked }
     ensures { IsWorked (test_due asked trial.now.netlist trial.now.file) 0 result }
 {
-    trial.netlist.sound();
-    faults_have_signals();
-    flush_fails();
-    let Ok(hardware) = hardware_of(alloc, &trial.netlist, asked) else {
-        return Err(Stop::NoMemory);
-    };
-    hardware.scanned.netlist().sound();
-    match fitting(alloc, &trial.file, hardware.scanned.netlist()) {
-        Ok(()) => tested(alloc, stage, &hardware, &trial.file),
-        Err(stop) => Err(stop),
+    match hardware_of(alloc, &trial.netlist, asked) {
+        Ok(hardware) => {
+            let product = fitted(alloc, stage, &hardware, trial, asked);
+            drop(hardware);
+            product
+        }
+        Err(_) => Err(Stop::NoMemory),
     }
 }
 
@@ -203,7 +244,9 @@ impl<G: Gate> Work for ChainTest<'_, G> {
         match trial_of(alloc, net, stil) {
             Ok(trial) => {
                 drop(texts);
-                tried(alloc, self.stage, &trial, self.chains)
+                let product = tried(alloc, self.stage, &trial, self.chains);
+                drop(trial);
+                product
             }
             Err(stop) => Err(stop),
         }

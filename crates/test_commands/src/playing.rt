@@ -44,7 +44,10 @@ fn trial_of(
     };
     let fault = match fault_of(&netlist, fault) {
         Ok(fault) => fault,
-        Err(stop) => return Err(stop),
+        Err(stop) => {
+            drop(netlist);
+            return Err(stop);
+        }
     };
     match stil_of(alloc, stil) {
         Ok(file) => Ok(Trial {
@@ -52,7 +55,10 @@ fn trial_of(
             fault,
             file,
         }),
-        Err(stop) => Err(stop),
+        Err(stop) => {
+            drop(netlist);
+            Err(stop)
+        }
     }
 }
 
@@ -133,20 +139,17 @@ fn line_of(alloc: Global, netlist: &Netlist, answer: Played) -> Result<Vec<u8>, 
     }
 }
 
-/// Plays a file on a netlist that it fits, and says what it shows.
-fn played(
+/// Plays a file on a core that it fits, and says what it shows.
+fn played_on(
     alloc: Global,
-    netlist: Netlist,
+    core: &Core,
     fault: Option<Fault>,
     file: &StilFile,
 ) -> Result<Product, Stop<Refusal>>
-    requires { FitsNetlist file.now netlist }
-    ensures { IsWorked (answer_due netlist fault file.now) 0 result }
+    requires { FitsNetlist file.now core.now }
+    ensures { IsWorked (answer_due core.now fault file.now) 0 result }
 {
-    let Ok(core) = Core::of(alloc, netlist) else {
-        return Err(Stop::NoMemory);
-    };
-    let Ok(answer) = answer_of(alloc, &core, fault, file) else {
+    let Ok(answer) = answer_of(alloc, core, fault, file) else {
         return Err(Stop::NoMemory);
     };
     match line_of(alloc, core.netlist(), answer) {
@@ -159,14 +162,59 @@ fn played(
     }
 }
 
+/// Plays a file on a netlist that it fits, and says what it shows.
+fn played(
+    alloc: Global,
+    netlist: Netlist,
+    fault: Option<Fault>,
+    file: &StilFile,
+) -> Result<Product, Stop<Refusal>>
+    requires { FitsNetlist file.now netlist }
+    ensures { IsWorked (answer_due netlist fault file.now) 0 result }
+{
+    match Core::of(alloc, netlist) {
+        Ok(core) => {
+            let product = played_on(alloc, &core, fault, file);
+            drop(core);
+            product
+        }
+        Err(refused) => {
+            drop(refused);
+            Err(Stop::NoMemory)
+        }
+    }
+}
+
+/// Plays a file, if it fits the netlist.
+fn fitted(
+    alloc: Global,
+    netlist: Netlist,
+    fault: Option<Fault>,
+    file: &StilFile,
+) -> Result<Product, Stop<Refusal>>
+    ensures { IsWorked (trial_due netlist fault file.now) 0 result }
+{
+    match fitting(alloc, file, &netlist) {
+        Ok(()) => played(alloc, netlist, fault, file),
+        Err(stop) => {
+            drop(netlist);
+            Err(stop)
+        }
+    }
+}
+
 /// Plays the file, if it fits the netlist.
 fn tried(alloc: Global, trial: Trial) -> Result<Product, Stop<Refusal>>
     ensures { IsWorked (trial_due trial.netlist trial.fault trial.file) 0 result }
 {
-    match fitting(alloc, &trial.file, &trial.netlist) {
-        Ok(()) => played(alloc, trial.netlist, trial.fault, &trial.file),
-        Err(stop) => Err(stop),
-    }
+    let Trial {
+        netlist,
+        fault,
+        file,
+    } = trial;
+    let product = fitted(alloc, netlist, fault, &file);
+    drop(file);
+    product
 }
 
 /// Shows what the file `stil` shows of the netlist of the file `net`, with the fault of this text or none.

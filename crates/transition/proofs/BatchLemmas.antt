@@ -24,6 +24,7 @@ use Rattle.transition.specs.Searches.{IsFoundIfLeft}
 use Rattle.transition.specs.inner.Asked.{AreAnswers, Asked, IsAnswer}
 use Rattle.transition.specs.inner.Gathered.{AreGathered, AreTogether, IsSlotOf, MayJoin}
 use Rattle.transition.specs.inner.Slots.{AnswersAt, AreAnswersFrom, first_slot, with_answers}
+use Rattle.transition.specs.inner.Steps.{NoneAnswered, OneMoreAnswered, SlotsAnswered, SlotsHold, SlotsKept}
 
 -- ---- lists side by side
 
@@ -39,7 +40,7 @@ pub one_apart : (n : Netlist) (taken : List Fault) (i : ℕ) (g f : Fault) → i
     → All (λ (h : Fault). AreApart n h f) (take (i + 1) taken)
 one_apart n taken i g f l before is here = All-more (λ (h : Fault). AreApart n h f) taken i g l before (subst (λ (h : Fault). AreApart n h f) is here)
 
-pub gathered_as : (a : Asked) (first count : ℕ) (places more : List ℕ) (slow longer : List Fault) → more ≡ places → longer ≡ slow
+gathered_as : (a : Asked) (first count : ℕ) (places more : List ℕ) (slow longer : List Fault) → more ≡ places → longer ≡ slow
     → AreGathered a first count places slow → AreGathered a first count more longer
 gathered_as a first count places more slow longer p s h =
     subst (λ (ks : List ℕ). AreGathered a first count ks longer) (sym p) (subst (AreGathered a first count places) (sym s) h)
@@ -50,9 +51,9 @@ line_at n faults h k f at =
     let same : get_or faults k f ≡ f = let e = sym (slice_get-get_or faults k f low) ∙ at in cc in
     subst (λ (g : Fault). IsLineOf n g.line) same (h k f low)
 
-pub one_gathered : (a : Asked) (first count : ℕ) (places : List ℕ) (slow : List Fault) (k place : ℕ) (f : Fault) → All (λ (g : Fault). IsLineOf a.netlist g.line) a.faults
+one_gathered : (a : Asked) (first count : ℕ) (places : List ℕ) (slow : List Fault) (k place : ℕ) (f : Fault)
     → AreGathered a first count places slow → place ≡ first + k → k < count → MayJoin a slow place f → length slow < 1024 → AreGathered a first count (places ++ k ∷ []) (slow ++ f ∷ [])
-one_gathered a first count places slow k place f lines had there within may few =
+one_gathered a first count places slow k place f had there within may few =
     let slot : IsSlotOf a first count k f = record {
       within = within;
       fault = subst (λ i. slice_get a.faults i ≡ Some f) there may.fault;
@@ -61,11 +62,18 @@ one_gathered a first count places slow k place f lines had there within may few 
     record {
       each = zip_push (IsSlotOf a first count) places slow k f had.each slot;
       together = record {
-        lines = All-push (λ (g : Fault). IsLineOf a.netlist g.line) slow f had.together.lines (line_at a.netlist a.faults lines place f may.fault);
+        lines = All-push (λ (g : Fault). IsLineOf a.netlist g.line) slow f had.together.lines may.line;
         apart = all_pairs_push (AreApart a.netlist) slow f had.together.apart may.apart;
         few = omega (arith, length_push slow f);
       };
     }
+
+-- a line that may join those that are taken is one more of the batch
+pub one_more_gathered : (a : Asked) (first count : ℕ) (places more : List ℕ) (slow seen longer : List Fault) (k : ℕ) (f : Fault) → AreGathered a first count places slow
+    → more ≡ places ++ k ∷ [] → longer ≡ slow ++ f ∷ [] → seen ≡ slow → MayJoin a seen (first + k) f → k < count → length slow < 1024 → AreGathered a first count more longer
+one_more_gathered a first count places more slow seen longer k f had is also same may within few =
+    gathered_as a first count (places ++ k ∷ []) more (slow ++ f ∷ []) longer is also
+    (one_gathered a first count places slow k (first + k) f had refl within (subst (λ (fs : List Fault). MayJoin a fs (first + k) f) same may) few)
 
 -- ---- the ties of their netlist
 
@@ -130,34 +138,45 @@ one_found a slow answers j f found had l is evidence =
     subst (λ (fs : List Fault). AreAnswers a fs (answers ++ found ∷ [])) (ap (λ (g : Fault). take j slow ++ g ∷ []) (sym is) ∙ sym (take_more slow j f l))
     (zip_push (IsAnswer a) (take j slow) answers f found had evidence)
 
+pub none_answered : NoneAnswered
+none_answered a slow answers none = record { are = subst (AreAnswers a []) (sym none) tt }
+
+pub one_more_answered : OneMoreAnswered
+one_more_answered a slow k f found old new had l is evidence more =
+    record { are = subst (AreAnswers a (take (k + 1) slow)) (sym more) (one_found a slow old k f found had.are l (sym is) evidence) }
+
 pub first_answers : (a : Asked) → AreAnswersFrom a 0 (map first_slot a.left)
-first_answers a k l =
-    let low : k < length a.left = omega (arith, l, length-map a.left first_slot) in
-    let at : (b : Bool) → get_or a.left k true ≡ b → AnswersAt a (0 + k) (first_slot b) =
-    elim [
-      | true ↦ λ e. tt
-      | false ↦ λ e f is.
-          subst (λ i. IsFoundIfLeft a.netlist a.holds a.limit a.refutes f (get_or a.left i true) None) (let same : k ≡ 0 + k = omega arith in same)
-          (subst (λ b. IsFoundIfLeft a.netlist a.holds a.limit a.refutes f b None) (sym e) refl)
-    ] in
-    subst (AnswersAt a (0 + k)) (sym (get_or-map first_slot a.left k true None low)) (at (get_or a.left k true) refl)
+first_answers a = record {
+  each = λ k l.
+      let low : k < length a.left = omega (arith, l, length-map a.left first_slot) in
+      let at : (b : Bool) → get_or a.left k true ≡ b → AnswersAt a (0 + k) (first_slot b) =
+      elim [
+        | true ↦ λ e. tt
+        | false ↦ λ e f is.
+            subst (λ i. IsFoundIfLeft a.netlist a.holds a.limit a.refutes f (get_or a.left i true) None) (let same : k ≡ 0 + k = omega arith in same)
+            (subst (λ b. IsFoundIfLeft a.netlist a.holds a.limit a.refutes f b None) (sym e) refl)
+      ] in
+      subst (AnswersAt a (0 + k)) (sym (get_or-map first_slot a.left k true None low)) (at (get_or a.left k true) refl);
+}
 
 one_stored : (a : Asked) (first k : ℕ) (slots : List (Option (Option Found))) (f : Fault) (found : Found) → AreAnswersFrom a first slots → IsSlotOf a first (length slots) k f
     → IsAnswer a f found → AreAnswersFrom a first (set slots k (Some (Some found)))
-one_stored a first k slots f found had slot evidence i l =
-    let low : i < length slots = omega (arith, l, length-set slots k (Some (Some found))) in
-    let here : AnswersAt a (first + k) (Some (Some found)) = λ g at.
-    let same : f ≡ g = let e = sym slot.fault ∙ at in cc in
-    subst (λ b. IsFoundIfLeft a.netlist a.holds a.limit a.refutes g b (Some found)) (sym slot.marked) (subst (λ (h : Fault). IsAnswer a h found) same evidence) in
-    elim (cases_eq i k) [
-      | inl same ↦
-          subst (λ j. AnswersAt a (first + j) (get_or (set slots k (Some (Some found))) j None)) (sym same)
-          (subst (AnswersAt a (first + k)) (sym (get_or-set_same slots k (Some (Some found)) None slot.within)) here)
-      | inr other ↦ subst (AnswersAt a (first + i)) (sym (get_or-set_other slots k i (Some (Some found)) None other)) (had i low)
-    ]
+one_stored a first k slots f found had slot evidence = record {
+  each = λ i l.
+      let low : i < length slots = omega (arith, l, length-set slots k (Some (Some found))) in
+      let here : AnswersAt a (first + k) (Some (Some found)) = λ g at.
+      let same : f ≡ g = let e = sym slot.fault ∙ at in cc in
+      subst (λ b. IsFoundIfLeft a.netlist a.holds a.limit a.refutes g b (Some found)) (sym slot.marked) (subst (λ (h : Fault). IsAnswer a h found) same evidence) in
+      elim (cases_eq i k) [
+        | inl same ↦
+            subst (λ j. AnswersAt a (first + j) (get_or (set slots k (Some (Some found))) j None)) (sym same)
+            (subst (AnswersAt a (first + k)) (sym (get_or-set_same slots k (Some (Some found)) None slot.within)) here)
+        | inr other ↦ subst (AnswersAt a (first + i)) (sym (get_or-set_other slots k i (Some (Some found)) None other)) (had.each i low)
+      ];
+}
 
 -- each answer has its slot
-pub slots_within : (a : Asked) (first count : ℕ) (places : List ℕ) (slow : List Fault) (found : List Found) → AllZip (IsSlotOf a first count) places slow → AreAnswers a slow found
+slots_within : (a : Asked) (first count : ℕ) (places : List ℕ) (slow : List Fault) (found : List Found) → AllZip (IsSlotOf a first count) places slow → AreAnswers a slow found
     → AllZip (λ k (x : Found). k < count) places found
 slots_within a first count [] [] [] each are = tt
 slots_within a first count [] [] (x ∷ found) each are = absurd are
@@ -179,12 +198,33 @@ answers_stored a first slots (k ∷ places) (f ∷ slow) (x ∷ found) each are 
     (one_stored a first k slots f x had each.0 are.0) in
     (rest.0 ∙ size, rest.1)
 
-pub answers_in : (a : Asked) (first : ℕ) (slots : List (Option (Option Found))) (places : List ℕ) (slow : List Fault) (found : List Found) (new : List (Option (Option Found)))
+answers_in : (a : Asked) (first : ℕ) (slots : List (Option (Option Found))) (places : List ℕ) (slow : List Fault) (found : List Found) (new : List (Option (Option Found)))
     → new ≡ with_answers slots places found → AllZip (IsSlotOf a first (length slots)) places slow → AreAnswers a slow found → AreAnswersFrom a first slots
     → (length new ≡ length slots) × AreAnswersFrom a first new
 answers_in a first slots places slow found new is each are had =
     let stored = answers_stored a first slots places slow found each are had in
     (ap length is ∙ stored.0, subst (AreAnswersFrom a first) (sym is) stored.1)
+
+pub slots_hold : SlotsHold
+slots_hold a first count places seen slow shown found had same also are = record {
+  each = subst (λ (ks : List ℕ). AllZip (λ k (x : Found). k < count) ks found) (sym same)
+      (slots_within a first count places slow found had.each (subst (λ (fs : List Fault). AreAnswers a fs found) also are));
+}
+
+slots_stored : (a : Asked) (first : ℕ) (old new : List (Option (Option Found))) (places seen : List ℕ) (slow shown : List Fault) (found : List Found)
+    → AreGathered a first (length old) places slow → seen ≡ places → shown ≡ slow → AreAnswers a shown found → AreAnswersFrom a first old → new ≡ with_answers old seen found
+    → (length new ≡ length old) × AreAnswersFrom a first new
+slots_stored a first old new places seen slow shown found had same also are before is =
+    answers_in a first old seen slow found new is (subst (λ (ks : List ℕ). AllZip (IsSlotOf a first (length old)) ks slow) (sym same) had.each)
+    (subst (λ (fs : List Fault). AreAnswers a fs found) also are) before
+
+pub slots_kept : SlotsKept
+slots_kept a first old new places seen slow shown found had same also are before is =
+    (slots_stored a first old new places seen slow shown found had same also are before is).0
+
+pub slots_answered : SlotsAnswered
+slots_answered a first old new places seen slow shown found had same also are before is =
+    (slots_stored a first old new places seen slow shown found had same also are before is).1
 
 -- the place of the next answer
 pub next_slot : (count j : ℕ) (places : List ℕ) (x : Found) (found : List Found) → AllZip (λ k (y : Found). k < count) (drop j places) (x ∷ found)
@@ -207,16 +247,18 @@ all_put slots (k ∷ places) (x ∷ found) none = absurd (omega arith)
 
 pub chunk_answers : (a : Asked) (slots : List (Option (Option Found))) (start : ℕ) (chunk : List (Option (Option Found))) → AreAnswersFrom a 0 slots → start + length chunk ≤ length slots
     → ((k : ℕ) (d : Option (Option Found)) → k < length chunk → get_or chunk k d ≡ get_or slots (start + k) d) → AreAnswersFrom a start chunk
-chunk_answers a slots start chunk all inside same k l =
-    let at : AnswersAt a (0 + (start + k)) (get_or slots (start + k) None) = all (start + k) (omega arith) in
-    subst (AnswersAt a (start + k)) (sym (same k None l))
-    (subst (λ i. AnswersAt a i (get_or slots (start + k) None)) (let e : 0 + (start + k) ≡ start + k = omega arith in e) at)
+chunk_answers a slots start chunk all inside same = record {
+  each = λ k l.
+      let at : AnswersAt a (0 + (start + k)) (get_or slots (start + k) None) = all.each (start + k) (omega arith) in
+      subst (AnswersAt a (start + k)) (sym (same k None l))
+      (subst (λ i. AnswersAt a i (get_or slots (start + k) None)) (let e : 0 + (start + k) ≡ start + k = omega arith in e) at);
+}
 
 pub answer_back : (a : Asked) (start offset i : ℕ) (chunk : List (Option (Option Found))) (slot : Option (Option Found)) → AreAnswersFrom a start chunk → offset < length chunk
     → start + offset ≡ i → get_or chunk offset None ≡ slot → AnswersAt a (0 + i) slot
 answer_back a start offset i chunk slot here low at is =
-    subst (AnswersAt a (0 + i)) is (subst (λ j. AnswersAt a j (get_or chunk offset None)) (let e : start + offset ≡ 0 + i = omega arith in e) (here offset low))
+    subst (AnswersAt a (0 + i)) is (subst (λ j. AnswersAt a j (get_or chunk offset None)) (let e : start + offset ≡ 0 + i = omega arith in e) (here.each offset low))
 
 pub answers_within : (a : Asked) (slots : List (Option (Option Found))) → length slots ≡ length a.faults → AreAnswersFrom a 0 slots
     → (i : ℕ) → i < length a.faults → AnswersAt a i (get_or slots i None)
-answers_within a slots size all i l = subst (λ j. AnswersAt a j (get_or slots i None)) (let e : 0 + i ≡ i = omega arith in e) (all i (omega arith))
+answers_within a slots size all i l = subst (λ j. AnswersAt a j (get_or slots i None)) (let e : 0 + i ≡ i = omega arith in e) (all.each i (omega arith))

@@ -8,7 +8,7 @@
 //! The alternative is a netlist for each line. What is made for a search then grows with the netlist, as the number of lines does, so that the time grows
 //! with the square of it, and nearly all of it goes into what is made. To rewire one line's frames for the next one saves less: readers, order and room
 //! have to be made anew.
-ghost use Rattle.std.specs.Prelude.{◌≡◌, ◌+◌, ◌≤◌, ◌<◌, ◌↔◌, ℕ, length, IfOk, IfSome, IsTrue, Some};
+ghost use Rattle.std.specs.Prelude.{◌≡◌, ◌+◌, ◌≤◌, ◌<◌, ◌↔◌, ℕ, length, IfOk, IfSome, IsTrue, OnOk, Some};
 ghost use Rattle.std.specs.List.{All, slice_get};
 ghost use Rattle.netlist.specs.Designs.{IsDesign};
 ghost use Rattle.netlist.specs.Holds.{AreHoldsOf};
@@ -18,15 +18,17 @@ ghost use Rattle.evidence.specs.declared.engine.Found.{Found as FoundOf};
 ghost use Rattle.evidence.specs.Answers.{HasEvidence};
 ghost use Rattle.transition_batches.specs.Batches.{AreApart, DecidesFrames, batch_fault, batch_of};
 ghost use Rattle.transition.specs.inner.Asked.{AreAnswers, IsAnswer};
-ghost use Rattle.transition.specs.inner.Gathered.{AreGathered, AreTogether, MayJoin};
+ghost use Rattle.transition.specs.inner.Gathered.{AreGathered, AreTogether, IsShare, MayJoin};
+ghost use Rattle.transition.specs.inner.Steps.{NoneAnswered, OneMoreAnswered};
 
+use crate::cores::batch_core;
 use crate::own_frames::search_one;
 use crate::tasks::Task;
 use evidence::{Engine, Found};
 use netlist::{Core, Fault, Line, Netlist, NoMemory, SignalId};
 use std::alloc::AllocError;
 use transition_batches::laws::batch_carries;
-use transition_batches::{MOST_FAULTS, are_apart, batch, decides_frames};
+use transition_batches::{MOST_FAULTS, are_apart, decides_frames};
 
 /// As many lines as make the netlist no more than a tenth larger, but enough to pay for it where it is small.
 pub(crate) fn most_together(netlist: &Netlist) -> usize
@@ -74,31 +76,60 @@ fn joining_fault<E: Engine>(
     }
 }
 
-/// A batch of the faults from one place to another that are left and have no answer yet, with their places.
+/// Lines of a batch, with the places of their slots.
+#[derive(Drop)]
+pub(crate) struct Gathered {
+    pub places: Vec<usize>,
+    pub slow: Vec<Fault>,
+}
+
+/// Takes the line of a slot into a batch, where there is room and it may join.
+fn join<E: Engine>(
+    task: &Task<'_, E>,
+    first: usize,
+    k: usize,
+    slots: &[Option<Option<Found>>],
+    most: usize,
+    batch: &mut Gathered,
+) -> Result<(), AllocError>
+    requires share { IsShare task.now first (length slots.now) }
+    requires within { k < length slots.now }
+    requires most { most ≤ 1024 }
+    requires had { AreGathered task.now first (length slots.now) batch.old.places.items batch.old.slow.items }
+    ensures { OnOk result (AreGathered task.now first (length slots.now) batch.new.places.items batch.new.slow.items) }
+{
+    if batch.slow.len() >= most {
+        return Ok(());
+    }
+    if let Some(fault) = joining_fault(task, &batch.slow, first + k, &slots[k]) {
+        batch.places.push(k)?;
+        batch.slow.push(fault)?;
+    }
+    Ok(())
+}
+
+/// A batch of the faults from one place to another that are left and have no answer yet.
 pub(crate) fn gather<E: Engine>(
     task: &Task<'_, E>,
     first: usize,
     from: usize,
     to: usize,
     slots: &[Option<Option<Found>>],
-) -> Result<(Vec<usize>, Vec<Fault>), AllocError>
-    requires share { first + length slots.now ≤ length task.now.faults }
+) -> Result<Gathered, AllocError>
+    requires share { IsShare task.now first (length slots.now) }
     requires within { to ≤ length slots.now }
-    ensures { IfOk result (λ r. AreGathered task.now first (length slots.now) r.0.items r.1.items) }
+    ensures { IfOk result (λ r. AreGathered task.now first (length slots.now) r.places.items r.slow.items) }
 {
     let most = most_together(task.netlist);
-    let mut places = Vec::new(task.alloc);
-    let mut taken = Vec::new(task.alloc);
+    let alloc = task.alloc;
+    let mut batch = Gathered {
+        places: Vec::new(alloc),
+        slow: Vec::new(alloc),
+    };
     for k in from..to {
-        let place = first + k;
-        if taken.len() < most
-            && let Some(fault) = joining_fault(task, &taken, place, &slots[k])
-        {
-            places.push(k)?;
-            taken.push(fault)?;
-        }
+        join(task, first, k, slots, most, &mut batch)?;
     }
-    Ok((places, taken))
+    Ok(batch)
 }
 
 /// The stuck-at fault of a batch's netlist that makes its line at place j slow.
@@ -115,22 +146,19 @@ fn tie_fault(netlist: &Netlist, j: usize, fault: &Fault) -> Fault
     }
 }
 
-/// Whether an answer of a batch keeps the engine's rule on its line's own frames, where the engine has one.
-fn keeps_rule<E: Engine>(task: &Task<'_, E>, fault: &Fault, found: &Found) -> bool
-    requires { IsLineOf task.now.netlist fault.now.line }
-{
-    match task.rule {
-        Some(rule) => rule.keeps(task.netlist, fault, found),
-        None => true,
-    }
-}
-
-/// Whether an answer of a batch stands on its line's own frames.
+/// Whether an answer of a batch stands on its line's own frames, where it has to keep the engine's rule too, if the engine has one.
 fn stands_alone<E: Engine>(task: &Task<'_, E>, fault: &Fault, found: &Found) -> bool
     requires { IsLineOf task.now.netlist fault.now.line }
     ensures { IsTrue result → DecidesFrames task.now.netlist found.now }
 {
-    decides_frames(task.netlist, found) && keeps_rule(task, fault, found)
+    let netlist = task.netlist;
+    if !decides_frames(netlist, found) {
+        return false;
+    }
+    match task.rule {
+        Some(rule) => rule.keeps(netlist, fault, found),
+        None => true,
+    }
 }
 
 /// What was found of a line in a batch, where that carries over to its own two frames; or else what is found on these.
@@ -168,6 +196,12 @@ fn search_tie<E: Engine>(
     Ok((answer, kept))
 }
 
+/// What follows of answers when there is one more: a function that does nothing, whose contract is the law.
+fn answers_grow()
+    ensures none { NoneAnswered }
+    ensures more { OneMoreAnswered }
+{}
+
 /// Searches for the lines of a batch on its netlist.
 fn search_together<E: Engine>(
     task: &Task<'_, E>,
@@ -179,13 +213,15 @@ fn search_together<E: Engine>(
     ensures { IfOk result (λ v. AreAnswers task.now slow.now v.items) }
 {
     batch_carries();
-    task.netlist.sound();
+    let alloc = task.alloc;
+    let netlist = task.netlist;
+    netlist.sound();
     core.netlist().sound();
-    let mut room = task.engine.room(task.alloc, core, task.holds)?;
-    let mut answers = Vec::with_capacity(task.alloc, slow.len())?;
+    let mut room = task.engine.room(alloc, core, task.holds)?;
+    let mut answers = Vec::with_capacity(alloc, slow.len())?;
     for j in 0..slow.len() {
         let fault = slow[j];
-        let tie = tie_fault(task.netlist, j, &fault);
+        let tie = tie_fault(netlist, j, &fault);
         let (answer, kept) = search_tie(task, core, room, tie, fault)?;
         room = kept;
         answers.push(answer)?;
@@ -198,6 +234,7 @@ fn search_each<E: Engine>(task: &Task<'_, E>, slow: &[Fault]) -> Result<Vec<Foun
     requires { All (λ (f : FaultOf). IsLineOf task.now.netlist f.line) slow.now }
     ensures { IfOk result (λ v. AreAnswers task.now slow.now v.items) }
 {
+    answers_grow();
     let mut answers = Vec::with_capacity(task.alloc, slow.len())?;
     for fault in slow {
         answers.push(search_one(task, *fault)?)?;
@@ -210,16 +247,11 @@ pub(crate) fn search_batch<E: Engine>(
     task: &Task<'_, E>,
     slow: &[Fault],
 ) -> Result<Vec<Found>, NoMemory>
-    requires { AreTogether task.now.netlist slow.now }
+    requires together { AreTogether task.now.netlist slow.now }
     ensures { IfOk result (λ v. AreAnswers task.now slow.now v.items) }
 {
-    match batch(task.alloc, task.netlist, slow)? {
-        Some(made) => {
-            let Ok(core) = Core::of(task.alloc, made) else {
-                return Err(NoMemory);
-            };
-            search_together(task, &core, slow)
-        }
+    match batch_core(task.alloc, task.netlist, slow)? {
+        Some(core) => search_together(task, &core, slow),
         None => search_each(task, slow),
     }
 }

@@ -20,12 +20,12 @@ ghost use Rattle.netlist.specs.Lines.{IsLineOf};
 ghost use Rattle.statement.specs.Netlists.{signals};
 ghost use Rattle.std.specs.Prelude.{◌≡◌, ◌<◌, ◌≤◌, length};
 
+use crate::cores::batch_core;
 use evidence::Found;
 use head_lines::{Role, is_gate, roles_of};
 use netlist::{Core, Fault, Holds, Line, Netlist, NoMemory, SignalId};
 use redundancy_cert::Node;
 use std::alloc::{AllocError, Global};
-use transition_batches::batch;
 use transition_frames::source_of;
 
 /// A signal of the two frames with no slow line.
@@ -101,6 +101,20 @@ fn is_fanout(slow: &SlowLine, x: usize, signal: &Signal) -> bool {
     signal.readers > 1 && !(slow.is_stem && x == slow.second)
 }
 
+/// That of slow lines on this netlist of the two frames.
+fn rule_on(alloc: Global, core: &Core, holds: &Holds) -> Result<PlaceRule, NoMemory>
+    requires { AreHoldsOf core.now holds.now }
+{
+    // A stuck output binds nothing.
+    let nowhere = Fault {
+        line: Line::Out(SignalId(0)),
+        value: false,
+    };
+    let roles = roles_of(alloc, core, &nowhere, holds)?;
+    let signals = signals_of(alloc, core.netlist(), &roles)?;
+    Ok(PlaceRule { signals })
+}
+
 impl PlaceRule {
     /// That of a design's slow lines under held inputs.
     #[tactic(auto, using(crate::proofs::BatchLemmas::held_in_batch))]
@@ -108,22 +122,12 @@ impl PlaceRule {
         requires design { IsDesign netlist.now }
         requires holds { AreHoldsOf netlist.now holds.now }
     {
-        let Some(plain) = batch(alloc, netlist, &[])? else {
-            return Ok(PlaceRule {
+        match batch_core(alloc, netlist, &[])? {
+            Some(core) => rule_on(alloc, &core, holds),
+            None => Ok(PlaceRule {
                 signals: Vec::new(alloc),
-            });
-        };
-        let Ok(core) = Core::of(alloc, plain) else {
-            return Err(NoMemory);
-        };
-        // A stuck output binds nothing.
-        let nowhere = Fault {
-            line: Line::Out(SignalId(0)),
-            value: false,
-        };
-        let roles = roles_of(alloc, &core, &nowhere, holds)?;
-        let signals = signals_of(alloc, core.netlist(), &roles)?;
-        Ok(PlaceRule { signals })
+            }),
+        }
     }
 
     /// Whether a signal stands in the chain of only readers that begins behind another.
@@ -189,6 +193,15 @@ impl PlaceRule {
         }
     }
 
+    fn may_stand_all(&self, slow: &SlowLine, nodes: &[Node]) -> bool {
+        for node in nodes {
+            if !self.may_stand(slow, node) {
+                return false;
+            }
+        }
+        true
+    }
+
     /// Whether an answer of a batch keeps the rule on a line's own frames.
     pub(crate) fn keeps(&self, netlist: &Netlist, fault: &Fault, found: &Found) -> bool
         requires design { IsDesign netlist.now }
@@ -197,7 +210,7 @@ impl PlaceRule {
         let slow = slow_line(netlist, fault);
         match found {
             Found::Test(_, _) => true,
-            Found::Closed(tree) => tree.nodes().iter().all(|node| self.may_stand(&slow, node)),
+            Found::Closed(tree) => self.may_stand_all(&slow, tree.nodes()),
             Found::Refuted(_) | Found::Partial(_) => false,
         }
     }

@@ -2,7 +2,7 @@
 //!
 //! The two frames come first, with the numbers that they have where one line alone is slow, and three gates for each slow line behind them: so what is
 //! decided below the gates means the same in a batch as in the two frames of one line.
-ghost use Rattle.std.specs.Prelude.{◌≡◌, ◌++◌, ◌<◌, ◌≤◌, length, map, IfOk, OnOk};
+ghost use Rattle.std.specs.Prelude.{◌≡◌, ◌++◌, ◌∷◌, [], ◌<◌, ◌≤◌, length, map, IfOk, OnOk};
 ghost use Rattle.std.specs.List.{All, Contains};
 ghost use Rattle.netlist.specs.Conditions.{IsSound, whole};
 ghost use Rattle.netlist.specs.Lines.{IsLineOf};
@@ -31,6 +31,21 @@ fn define(
     ensures { IfOk result (λ d. d ≡ define_as id kind pins.now) }
 {
     Ok(Definition::new(id, kind, SmallVec::from_slice(alloc, pins)?))
+}
+
+/// Adds a gate that reads these signals.
+fn push_gate(
+    alloc: Global,
+    id: SignalId,
+    kind: Kind,
+    pins: &[SignalId],
+    made: &mut Vec<Definition>,
+) -> Result<(), AllocError>
+    ensures { OnOk result (made.new.items ≡ made.old.items ++ define_as id kind pins.now ∷ []) }
+{
+    let gate = define(alloc, id, kind, pins)?;
+    made.push(gate)?;
+    Ok(())
 }
 
 /// A definition in the first frame.
@@ -73,6 +88,43 @@ fn next(
     Ok(Definition::new(moved, definition.kind(), pins))
 }
 
+/// Adds what a definition is in the first frame.
+fn push_first(
+    alloc: Global,
+    netlist: &Netlist,
+    faults: &[Fault],
+    marks: &[bool],
+    definition: &Definition,
+    made: &mut Vec<Definition>,
+) -> Result<(), AllocError>
+    requires batch { IsBatch netlist.now faults.now marks.now }
+    requires own { Contains netlist.now.definitions definition.now }
+    ensures { OnOk result (made.new.items ≡ made.old.items ++ in_first_of netlist.now faults.now definition.now ∷ []) }
+{
+    let there = first(alloc, netlist, faults, marks, definition)?;
+    made.push(there)?;
+    Ok(())
+}
+
+/// Adds what it is in the second frame.
+fn push_second(
+    alloc: Global,
+    netlist: &Netlist,
+    faults: &[Fault],
+    marks: &[bool],
+    definition: &Definition,
+    made: &mut Vec<Definition>,
+) -> Result<(), AllocError>
+    requires batch { IsBatch netlist.now faults.now marks.now }
+    requires own { Contains netlist.now.definitions definition.now }
+    requires low { definition.now.id < length (signals netlist.now) }
+    ensures { OnOk result (made.new.items ≡ made.old.items ++ in_second_of netlist.now faults.now definition.now ∷ []) }
+{
+    let there = next(alloc, netlist, faults, marks, definition)?;
+    made.push(there)?;
+    Ok(())
+}
+
 /// Adds the definitions of the first frame.
 fn push_firsts(
     alloc: Global,
@@ -85,7 +137,7 @@ fn push_firsts(
     ensures { OnOk result (made.new.items ≡ made.old.items ++ map (in_first_of netlist.now faults.now) netlist.now.definitions) }
 {
     for definition in netlist.definitions() {
-        made.push(first(alloc, netlist, faults, marks, definition)?)?;
+        push_first(alloc, netlist, faults, marks, definition, made)?;
     }
     Ok(())
 }
@@ -102,7 +154,7 @@ fn push_seconds(
     ensures { OnOk result (made.new.items ≡ made.old.items ++ map (in_second_of netlist.now faults.now) netlist.now.definitions) }
 {
     for definition in netlist.definitions() {
-        made.push(next(alloc, netlist, faults, marks, definition)?)?;
+        push_second(alloc, netlist, faults, marks, definition, made)?;
     }
     Ok(())
 }
@@ -130,10 +182,9 @@ fn push_slow(
     } else {
         (Kind::Const1, Kind::Or, Kind::And)
     };
-    made.push(define(alloc, tie, bit, &[])?)?;
-    made.push(define(alloc, hold, keep, &[x, tie])?)?;
-    made.push(define(alloc, late, lag, &[second(netlist, x), hold])?)?;
-    Ok(())
+    push_gate(alloc, tie, bit, &[], made)?;
+    push_gate(alloc, hold, keep, &[x, tie], made)?;
+    push_gate(alloc, late, lag, &[second(netlist, x), hold], made)
 }
 
 /// Adds the gates of all slow lines.
@@ -155,7 +206,23 @@ fn push_all_slow(
     Ok(())
 }
 
-/// The outputs, which show the second frame.
+/// Adds the outputs, which show the second frame.
+fn push_outputs(
+    netlist: &Netlist,
+    faults: &[Fault],
+    marks: &[bool],
+    outputs: &mut Vec<SignalId>,
+) -> Result<(), AllocError>
+    requires batch { IsBatch netlist.now faults.now marks.now }
+    ensures { OnOk result (outputs.new.items ≡ outputs.old.items ++ map (λ y. read_late netlist.now 0 faults.now (Out y) y) netlist.now.outputs) }
+{
+    for y in netlist.outputs() {
+        outputs.push(read(netlist, faults, marks, &Line::Out(*y), *y))?;
+    }
+    Ok(())
+}
+
+/// The outputs.
 fn outputs(
     alloc: Global,
     netlist: &Netlist,
@@ -166,9 +233,7 @@ fn outputs(
     ensures { IfOk result (λ v. v.items ≡ map (λ y. read_late netlist.now 0 faults.now (Out y) y) netlist.now.outputs) }
 {
     let mut outputs = Vec::with_capacity(alloc, netlist.outputs().len())?;
-    for y in netlist.outputs() {
-        outputs.push(read(netlist, faults, marks, &Line::Out(*y), *y))?;
-    }
+    push_outputs(netlist, faults, marks, &mut outputs)?;
     Ok(outputs)
 }
 
@@ -216,9 +281,10 @@ pub(crate) fn batch_parts(
     let marks = mark_sources(alloc, netlist, faults)?;
     let definitions = definitions(alloc, netlist, faults, &marks)?;
     let outputs = outputs(alloc, netlist, faults, &marks)?;
+    let inputs = Vec::from_slice(alloc, netlist.inputs())?;
     Ok(Parts {
         names: names(alloc, tie_at(netlist, faults.len()).0)?,
-        inputs: Vec::from_slice(alloc, netlist.inputs())?,
+        inputs,
         outputs,
         definitions,
     })

@@ -1,23 +1,24 @@
 -- Lines of a certificate of transition faults, and the whole.
-use Rattle.std.proofs.Common.{◌≡◌, ◌≢◌, ◌<◌, ℕ, Bool, true, false, List, [], ◌∷◌, ◌++◌, codes, get_or, refl, sym, ◌∙◌, ap, subst, arith, append_assoc, append-nil}
+use Rattle.std.proofs.Common.{length, ◌≡◌, ◌≢◌, ◌<◌, ℕ, Bool, true, false, List, [], ◌∷◌, ◌++◌, codes, get_or, refl, sym, ◌∙◌, ap, subst, arith, append_assoc, append-nil}
 use Rattle.std.specs.List.{All, flat_map}
 use Rattle.std.proofs.lemmas.List.{append_cancel_left}
 use Rattle.std.proofs.lemmas.List.Elements.{All-append, All-weaker}
 use Rattle.statement.specs.declared.lines.Fault.{Fault}
-use Rattle.statement.specs.Netlists.{Netlist}
+use Rattle.statement.specs.Netlists.{Netlist, signals}
+use Rattle.netlist.specs.Lines.{signal_of}
 use Rattle.netlist.specs.Conditions.{IsSound}
 use Rattle.netlist.specs.Netlist.{signal_count}
 use Rattle.redundancy_cert.specs.declared.nodes.Node.{Node}
 use Rattle.redundancy_cert.specs.declared.nodes.Node.TheVariants.{Closed, Open, Split, Forced}
 use Rattle.evidence.specs.declared.kinds.Evidence.{Evidence}
 use Rattle.evidence.specs.declared.kinds.Evidence.TheVariants.{Tree, Refutation}
-use Rattle.certificate.specs.Certificates.{HasSignal, IsTextOf, IsWellFormed, NoText, evidence_text, has_refutation}
+use Rattle.certificate.specs.Certificates.{HasSignal, HasSignals, IsTextOf, IsWellFormed, NoText, evidence_text, has_refutation}
 use Rattle.certificate.proofs.EvidenceTexts.{evidence_ends, evidence_has_no, same_text}
 use Rattle.report.specs.Beginnings.{NoneBegins}
 use Rattle.report.proofs.LineLemmas.{IsLined, IsTold, line_rest, line_told, next_read, nothing_begins, same_lines}
 use Rattle.transition_frames.specs.Frames.{frames_of}
 use Rattle.transition_frames.proofs.Numbered.{frames_count}
-use Rattle.transition_report.specs.Texts.{transition_first_line, transition_line, transition_text}
+use Rattle.transition_report.specs.Texts.{IsNamedInFrames, transition_first_line, transition_line, transition_text}
 use Rattle.transition_report.specs.Reading.{IsTransitionCertificate, IsTransitionEvidence, NoTransitionCertificate}
 use Rattle.transition_report.specs.inner.Parts.{AreLinesIn, AreSlowLines, IsSlowFaultAt, IsSlowLine, IsWrittenIn, NoSlowFaultAt, slow_words}
 use Rattle.transition_report.proofs.NameLemmas as names
@@ -95,6 +96,17 @@ module _ (n : Netlist) (f g : Fault) where
   formed_kept : (e : Evidence) → IsWellFormed (frames_of n f) e → IsWellFormed (frames_of n g) e
   formed_kept (Tree nodes) h = (All-weaker (HasSignal (frames_of n f)) (HasSignal (frames_of n g)) signal_kept nodes h.0, h.1)
   formed_kept (Refutation steps) h = h
+
+  pub signals_kept : (e : Evidence) → HasSignals (frames_of n f) e → HasSignals (frames_of n g) e
+  signals_kept (Tree nodes) h = All-weaker (HasSignal (frames_of n f)) (HasSignal (frames_of n g)) signal_kept nodes h
+  signals_kept (Refutation steps) h = h
+
+-- evidence that is named in the frames of its own fault is so in those of one
+pub all_named : (n two : Netlist) (g : Fault) → two ≡ frames_of n g → (evidence : List (Fault × Evidence)) → All (IsNamedInFrames n) evidence
+    → All (λ (p : Fault × Evidence). (signal_of p.0.line < length (signals n)) × HasSignals two p.1) evidence
+all_named n two g framed evidence named =
+    All-weaker (IsNamedInFrames n) (λ (p : Fault × Evidence). (signal_of p.0.line < length (signals n)) × HasSignals two p.1)
+    (λ p w. (w.signal, subst (λ (m : Netlist). HasSignals m p.1) (sym framed) (signals_kept n p.0 g p.1 w.signals))) evidence named
 
 module _ (n : Netlist) (f : Fault) where
   pub by_own : (text : List ℕ) (evidence : List (Fault × Evidence)) → AreLinesIn n (frames_of n f) text evidence → AreSlowLines n text evidence

@@ -5,12 +5,11 @@ ghost use Rattle.evidence.specs.declared.kinds.Evidence.{Evidence as EvidenceOf}
 ghost use Rattle.netlist.specs.Designs.{IsDesign};
 ghost use Rattle.certificate.specs.Certificates.{IsCertFault};
 ghost use Rattle.certificate.specs.declared.reading.CertFault.TheVariants.{NoMemory};
-ghost use Rattle.transition_frames.specs.Frames.{frames_of};
 ghost use Rattle.transition_report.specs.Texts.{transition_first_line};
 ghost use Rattle.transition_report.specs.Reading.{IsTransitionCertificate, NoTransitionCertificate};
-ghost use Rattle.transition_report.specs.inner.Parts.{AreLinesIn, AreSlowLines, IsSlowLine};
+ghost use Rattle.transition_report.specs.inner.Parts.{AreLinesIn, AreSlowLines, IsFramed, IsSlowLine};
 
-use crate::certificates::first_line;
+use crate::certificates::{first_line, framed};
 use crate::fault_reading::slow_fault_at;
 use certificate::{CertFault, evidence_of, has_refutation};
 use evidence::Evidence;
@@ -19,7 +18,6 @@ use netlist::{Fault, Line, Netlist};
 use plain_text::split_at;
 use report::behind;
 use std::alloc::Global;
-use transition_frames::frames;
 
 /// What the first line says, and what comes behind it.
 fn behind_first(bytes: &[u8]) -> Option<(bool, &[u8])>
@@ -88,17 +86,41 @@ fn read_lines(
 /// Two frames for the names of their signals: those in which the first input is slow.
 fn named_frames(alloc: Global, netlist: &Netlist) -> Result<Netlist, CertFault>
     requires { IsDesign netlist.now }
-    ensures { MatchResult result (λ two. (slow : FaultOf) × (two ≡ frames_of netlist.now slow)) (λ fault. fault ≡ NoMemory) }
+    ensures { MatchResult result (IsFramed netlist.now) (λ fault. fault ≡ NoMemory) }
 {
     netlist.sound();
     let slow = Fault {
         line: Line::Stem(netlist.inputs()[0]),
         value: false,
     };
-    match frames(alloc, netlist, slow) {
-        Ok((two, _)) => Ok(two),
+    match framed(alloc, netlist, slow) {
+        Ok(two) => Ok(two),
         Err(_) => Err(CertFault::NoMemory),
     }
+}
+
+/// The evidence of lines, by the names of these two frames. What is large is let go by one call.
+fn lines_by(
+    alloc: Global,
+    netlist: &Netlist,
+    two: &Netlist,
+    lines: &[u8],
+) -> Result<Vec<(Fault, Evidence)>, CertFault>
+    requires { IsFramed netlist.now two.now }
+    ensures { MatchResult result
+        (λ evidence. AreSlowLines netlist.now lines.now evidence.items)
+        (IsCertFault ((evidence : List (FaultOf × EvidenceOf)) → ¬ AreSlowLines netlist.now lines.now evidence)) }
+{
+    let Ok(names) = NameIndex::of(alloc, netlist) else {
+        return Err(CertFault::NoMemory);
+    };
+    let Ok(index) = NameIndex::of(alloc, two) else {
+        drop(names);
+        return Err(CertFault::NoMemory);
+    };
+    let evidence = read_lines(alloc, &names, &index, lines);
+    drop((names, index));
+    evidence
 }
 
 /// The evidence of lines.
@@ -113,13 +135,9 @@ fn lines_of(
         (IsCertFault ((evidence : List (FaultOf × EvidenceOf)) → ¬ AreSlowLines netlist.now lines.now evidence)) }
 {
     let two = named_frames(alloc, netlist)?;
-    let Ok(names) = NameIndex::of(alloc, netlist) else {
-        return Err(CertFault::NoMemory);
-    };
-    let Ok(index) = NameIndex::of(alloc, &two) else {
-        return Err(CertFault::NoMemory);
-    };
-    read_lines(alloc, &names, &index, lines)
+    let evidence = lines_by(alloc, netlist, &two, lines);
+    drop(two);
+    evidence
 }
 
 /// The evidence whose certificate the bytes are, in the order of its lines; `NotCertificate` exactly where they are none.

@@ -4,7 +4,8 @@ ghost use Rattle.std.specs.List.{All, flat_map};
 ghost use Rattle.statement.specs.declared.lines.Fault.{Fault as FaultOf};
 ghost use Rattle.evidence.specs.declared.kinds.Evidence.{Evidence as EvidenceOf};
 ghost use Rattle.netlist.specs.Designs.{IsDesign};
-ghost use Rattle.netlist.specs.Lines.{signal_of};
+ghost use Rattle.netlist.specs.Lines.{IsLineOf, signal_of};
+ghost use Rattle.transition_frames.specs.Frames.{frames_of};
 ghost use Rattle.statement.specs.Netlists.{signals};
 ghost use Rattle.certificate.specs.Certificates.{HasSignals, HasSmallNumbers};
 ghost use Rattle.transition_report.specs.Texts.{transition_text, transition_line, transition_first_line, transition_certificate, IsNamedInFrames};
@@ -72,6 +73,42 @@ pub(crate) fn first_line(refutes: bool) -> &'static [u8]
     }
 }
 
+/// The two frames in which a line is slow.
+pub(crate) fn framed(alloc: Global, netlist: &Netlist, slow: Fault) -> Result<Netlist, NoMemory>
+    requires design { IsDesign netlist.now }
+    requires line { IsLineOf netlist.now slow.line }
+    ensures { IfOk result (λ two. two ≡ frames_of netlist.now slow) }
+{
+    match frames(alloc, netlist, slow) {
+        Ok((two, _)) => Ok(two),
+        Err(_) => Err(NoMemory),
+    }
+}
+
+/// Adds the lines of this evidence, each of which is named in the two frames of its fault.
+fn push_lines(
+    alloc: Global,
+    text: &mut Vec<u8>,
+    netlist: &Netlist,
+    evidence: &[(Fault, Evidence)],
+) -> Result<(), NoMemory>
+    requires design { IsDesign netlist.now }
+    requires named { All (IsNamedInFrames netlist.now) evidence.now }
+    ensures text { OnOk result (text.new.items ≡ text.old.items ++ flat_map (λ (p : FaultOf × EvidenceOf). transition_line netlist.now (frames_of netlist.now p.0) p) evidence.now) }
+    ensures within { OnOk result (All (λ (p : FaultOf × EvidenceOf). HasSmallNumbers p.1) evidence.now) }
+{
+    let Some(first) = evidence.first() else {
+        return Ok(());
+    };
+    let two = framed(alloc, netlist, first.0)?;
+    let done = push_all(text, netlist, &two, evidence);
+    drop(two);
+    match done {
+        Ok(()) => Ok(()),
+        Err(_) => Err(NoMemory),
+    }
+}
+
 /// The certificate of this evidence for a design, each with its transition fault, in this order. The numbers of its refutations are below 2^32, so that
 /// it is read back.
 pub fn write_certificate(
@@ -85,13 +122,9 @@ pub fn write_certificate(
     ensures within { IfOk result (λ text. All (λ (p : FaultOf × EvidenceOf). HasSmallNumbers p.1) evidence.now) }
 {
     let head = first_line(has_refutation(evidence));
-    let mut text = Vec::from_slice(alloc, head).map_err(|_| NoMemory)?;
-    let Some(first) = evidence.first() else {
-        return Ok(text);
+    let Ok(mut text) = Vec::from_slice(alloc, head) else {
+        return Err(NoMemory);
     };
-    let (two, _) = frames(alloc, netlist, first.0)?;
-    match push_all(&mut text, netlist, &two, evidence) {
-        Ok(()) => Ok(text),
-        Err(_) => Err(NoMemory),
-    }
+    push_lines(alloc, &mut text, netlist, evidence)?;
+    Ok(text)
 }

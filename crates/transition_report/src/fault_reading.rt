@@ -1,5 +1,5 @@
 //! Transition faults from their texts, as `pin z 0 rise`.
-ghost use Rattle.std.specs.Prelude.{◌≡◌, ◌≢◌, ◌++◌, ℕ, Bool, List, IfOk, MatchOption};
+ghost use Rattle.std.specs.Prelude.{◌≡◌, ◌≢◌, ◌++◌, ℕ, Bool, List, codes, IfOk, OnOk, MatchOption};
 ghost use Rattle.certificate.specs.Words.{IsEnd};
 ghost use Rattle.report.specs.Reports.{slow_text};
 ghost use Rattle.report.specs.inner.Faults.{slow_word};
@@ -11,6 +11,15 @@ use name_index::NameIndex;
 use netlist::{Fault, Line};
 use std::alloc::AllocError;
 
+/// Makes the text of a line's fault at 0.
+fn spell(room: &mut Vec<u8>, text: &[u8]) -> Result<(), AllocError>
+    ensures { OnOk result (room.new.items ≡ text.now ++ codes "/0") }
+{
+    room.clear();
+    room.extend_from_slice(text)?;
+    room.extend_from_slice(b"/0")
+}
+
 /// The line of a fault that is written so. It is found by the text of its fault at 0.
 fn line_named(
     room: &mut Vec<u8>,
@@ -19,9 +28,7 @@ fn line_named(
 ) -> Result<Option<Line>, AllocError>
     ensures { IfOk result (λ line. IsLineFound names.now text.now line) }
 {
-    room.clear();
-    room.extend_from_slice(text)?;
-    room.extend_from_slice(b"/0")?;
+    spell(room, text)?;
     match fault_named(names, room.as_slice()) {
         Some(fault) => Ok(Some(fault.line)),
         None => Ok(None),

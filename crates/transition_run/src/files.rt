@@ -1,43 +1,40 @@
-//! From a design to the five files of its transition faults. A batch of drawn patterns drops most faults that can be detected; the others are searched in
-//! two rounds, and then all patterns are simulated. What a round searches is set before it begins: there is no list that workers share, and so no lock.
-ghost use Rattle.std.specs.Prelude.{◌≡◌, ◌<◌, ◌≤◌, ◌+◌, ◌^◌, IfOk, length};
+//! From a design to the five files of its transition faults: its tests (`rounds`), and their texts.
+ghost use Rattle.std.specs.Prelude.{◌≡◌, ◌<◌, ◌≤◌, ◌^◌, Bool, IfOk, length};
 ghost use Rattle.std.specs.List.{All};
 ghost use Rattle.plain_text.specs.Limits.{most_limit, most_workers};
 ghost use Rattle.netlist.specs.Designs.{IsDesign};
 ghost use Rattle.netlist.specs.Holds.{AreHoldsOf};
 ghost use Rattle.cubes.specs.Cubes.{IsPatternOf};
 ghost use Rattle.scan_insert.specs.Scanned.{AreChainsOf, scanned_of};
+ghost use Rattle.statement.specs.Benches.{canonical};
 ghost use Rattle.statement.specs.Faults.{universe_of};
 ghost use Rattle.statement.specs.declared.lines.Fault.{Fault as FaultOf};
 ghost use Rattle.evidence.specs.declared.kinds.Evidence.{Evidence as EvidenceOf};
 ghost use Rattle.certificate.specs.Certificates.{HasSmallNumbers};
-ghost use Rattle.transition.specs.Searches.{AreFoundWhereLeft};
-ghost use Rattle.transition_report.specs.Texts.{IsNamedInFrames, transition_certificate};
+ghost use Rattle.transition_report.specs.Texts.{IsNamedInFrames, transition_certificate, transition_report_text};
 ghost use Rattle.transition_tests.specs.Lines.{leaves_of};
 ghost use Rattle.transition_tests.specs.SlowLines.{AreSlowLines};
 ghost use Rattle.transition_tests.specs.Verdicts.{AreTests, MayHave};
 ghost use Rattle.transition_run.specs.Runs.{IsTransitionRun};
-ghost use Rattle.transition_run.specs.inner.Written.{IsLaunchText, IsSaid, IsWritten};
+ghost use Rattle.transition_run.specs.inner.Written.{IsLaunchText, IsSaid, IsShown, IsTold, IsWritten};
 
+use crate::rounds::slow_tests;
 use crate::truth::written_is_run;
 use bench_text::write;
 use cubes::Pattern;
-use evidence::{Engine, Found};
-use fault_universe::{FaultSet, faults_have_lines, faults_have_signals, few_faults, universe};
+use evidence::Engine;
+use fault_universe::{faults_have_lines, faults_have_signals, few_faults, universe};
 use netlist::{Core, Holds, Netlist, NoMemory};
-use outside::{Gate, Stage};
+use outside::Gate;
 use run_report::{hold_lines, pin_names};
 use scan_insert::{Chains, insert, stitch};
 use std::alloc::Global;
 use std::thread::Threads;
 use stil_write::write_stil;
-use transition::{SearchPlan, search_left};
+use transition::SearchPlan;
 use transition_files::stil2_of;
 use transition_report::{TransitionReport, report_of, write_certificate, write_report};
-use transition_tests::{
-    SlowLines, Tests, TransitionVerdict, all_answers, batch_of, first_round, leaves_of, left_by,
-    lines_of, second_round, tests_of, with_tests,
-};
+use transition_tests::{SlowLines, Tests, TransitionVerdict, leaves_of, lines_of};
 use worker::Errand;
 
 /// How a run goes: at most so many chains, the seed of the bits that patterns are drawn and cubes are filled with, and how lines are searched.
@@ -59,6 +56,34 @@ pub struct TransitionFiles {
     pub said: TransitionReport,
 }
 
+/// The texts of the netlist and of the scanned one.
+#[derive(Drop)]
+struct NetTexts {
+    net: Vec<u8>,
+    scan: Vec<u8>,
+}
+
+/// The report as text and as a value.
+#[derive(Drop)]
+struct Reported {
+    text: Vec<u8>,
+    said: TransitionReport,
+}
+
+/// The texts of both netlists, and the report.
+#[derive(Drop)]
+struct Told {
+    nets: NetTexts,
+    report: Reported,
+}
+
+/// The texts of patterns and evidence.
+#[derive(Drop)]
+struct Shown {
+    stil: Vec<u8>,
+    certificate: Vec<u8>,
+}
+
 /// The test of these patterns as text.
 fn stil_text(
     alloc: Global,
@@ -75,7 +100,10 @@ fn stil_text(
 {
     let file = stil2_of(alloc, core, chains, patterns, holds)?;
     file.sound();
-    write_stil(alloc, &file).map_err(|_| NoMemory)
+    match write_stil(alloc, &file) {
+        Ok(text) => Ok(text),
+        Err(_) => Err(NoMemory),
+    }
 }
 
 /// What the report says of these tests.
@@ -95,7 +123,6 @@ fn said_of(
 {
     let netlist = lines.core.netlist();
     netlist.sound();
-    few_faults();
     let pins = pin_names(alloc, scanned)?;
     let verdicts = tests.verdicts.as_slice();
     let texts = lines_of(alloc, netlist, chains, &pins, lines.faults, verdicts)?;
@@ -122,6 +149,98 @@ fn certificate_text(
     write_certificate(alloc, netlist, leaves.as_slice())
 }
 
+/// The netlists' texts.
+fn net_texts(alloc: Global, core: &Core, scanned: &Netlist) -> Result<NetTexts, NoMemory>
+    ensures net { IfOk result (λ t. t.net.items ≡ canonical core.now) }
+    ensures scan { IfOk result (λ t. t.scan.items ≡ canonical scanned.now) }
+{
+    let net = write(alloc, core.netlist())?;
+    let scan = write(alloc, scanned)?;
+    Ok(NetTexts { net, scan })
+}
+
+/// The report of these tests.
+fn report_on(
+    alloc: Global,
+    lines: &SlowLines<'_>,
+    chains: &Chains,
+    scanned: &Netlist,
+    tests: &Tests,
+) -> Result<Reported, NoMemory>
+    requires lines { AreSlowLines lines.now.core.now lines.now.holds.now lines.now.faults.now }
+    requires chains { AreChainsOf lines.now.core.now chains.now }
+    requires scanned { scanned.now ≡ scanned_of lines.now.core.now chains.now }
+    requires tests { AreTests lines.now.core.now lines.now.holds.now lines.now.limit tests.now.patterns.items tests.now.verdicts.items }
+    requires few { length tests.now.patterns.items < 2 ^ 32 }
+    ensures text { IfOk result (λ r. r.text.items ≡ transition_report_text r.said) }
+    ensures said { IfOk result (λ r. IsSaid lines.now.core.now lines.now.holds.now chains.now lines.now.limit tests.now.patterns.items tests.now.verdicts.items r.said) }
+{
+    let said = said_of(alloc, lines, chains, scanned, tests)?;
+    match write_report(alloc, &said) {
+        Ok(text) => Ok(Reported { text, said }),
+        Err(_) => Err(NoMemory),
+    }
+}
+
+/// What is told of these tests beside this scanned netlist.
+fn told_beside(
+    alloc: Global,
+    lines: &SlowLines<'_>,
+    chains: &Chains,
+    scanned: &Netlist,
+    tests: &Tests,
+) -> Result<Told, NoMemory>
+    requires lines { AreSlowLines lines.now.core.now lines.now.holds.now lines.now.faults.now }
+    requires chains { AreChainsOf lines.now.core.now chains.now }
+    requires scanned { scanned.now ≡ scanned_of lines.now.core.now chains.now }
+    requires tests { AreTests lines.now.core.now lines.now.holds.now lines.now.limit tests.now.patterns.items tests.now.verdicts.items }
+    requires few { length tests.now.patterns.items < 2 ^ 32 }
+    ensures { IfOk result (λ t. IsTold lines.now.core.now lines.now.holds.now chains.now lines.now.limit tests.now.patterns.items tests.now.verdicts.items t.nets.net.items t.nets.scan.items t.report.text.items t.report.said) }
+{
+    let nets = net_texts(alloc, lines.core, scanned)?;
+    let report = report_on(alloc, lines, chains, scanned, tests)?;
+    Ok(Told { nets, report })
+}
+
+/// The texts of the netlists and the report of these tests.
+fn told_of(
+    alloc: Global,
+    lines: &SlowLines<'_>,
+    chains: &Chains,
+    tests: &Tests,
+) -> Result<Told, NoMemory>
+    requires lines { AreSlowLines lines.now.core.now lines.now.holds.now lines.now.faults.now }
+    requires chains { AreChainsOf lines.now.core.now chains.now }
+    requires tests { AreTests lines.now.core.now lines.now.holds.now lines.now.limit tests.now.patterns.items tests.now.verdicts.items }
+    requires few { length tests.now.patterns.items < 2 ^ 32 }
+    ensures { IfOk result (λ t. IsTold lines.now.core.now lines.now.holds.now chains.now lines.now.limit tests.now.patterns.items tests.now.verdicts.items t.nets.net.items t.nets.scan.items t.report.text.items t.report.said) }
+{
+    let scanned = insert(alloc, lines.core.netlist(), chains)?;
+    told_beside(alloc, lines, chains, scanned.netlist(), tests)
+}
+
+/// The texts of the patterns and the evidence of these tests.
+fn shown_of(
+    alloc: Global,
+    lines: &SlowLines<'_>,
+    chains: &Chains,
+    tests: Tests,
+) -> Result<Shown, NoMemory>
+    requires lines { AreSlowLines lines.now.core.now lines.now.holds.now lines.now.faults.now }
+    requires chains { AreChainsOf lines.now.core.now chains.now }
+    requires tests { AreTests lines.now.core.now lines.now.holds.now lines.now.limit tests.patterns.items tests.verdicts.items }
+    ensures { IfOk result (λ s. IsShown lines.now.core.now lines.now.holds.now chains.now tests.patterns.items tests.verdicts.items s.stil.items s.certificate.items) }
+{
+    let Tests { patterns, verdicts } = tests;
+    let stil = stil_text(alloc, lines.core, chains, patterns.as_slice(), lines.holds)?;
+    drop(patterns);
+    lines.core.netlist().sound();
+    faults_have_lines();
+    faults_have_signals();
+    let certificate = certificate_text(alloc, lines, verdicts)?;
+    Ok(Shown { stil, certificate })
+}
+
 /// The texts of these tests.
 fn texts_of(
     alloc: Global,
@@ -135,168 +254,40 @@ fn texts_of(
     requires few { length tests.patterns.items < 2 ^ 32 }
     ensures { IfOk result (IsWritten lines.now.core.now lines.now.holds.now chains.now lines.now.limit tests.patterns.items tests.verdicts.items) }
 {
+    let told = told_of(alloc, lines, chains, &tests)?;
+    let shown = shown_of(alloc, lines, chains, tests)?;
+    Ok(TransitionFiles {
+        net: told.nets.net,
+        scan: told.nets.scan,
+        stil: shown.stil,
+        certificate: shown.certificate,
+        report: told.report.text,
+        said: told.report.said,
+    })
+}
+
+/// The files of these tests, for so many chains.
+fn files_of(
+    alloc: Global,
+    lines: &SlowLines<'_>,
+    asked: u32,
+    tests: Tests,
+) -> Result<TransitionFiles, NoMemory>
+    ghost refutes: { Bool }
+    requires lines { AreSlowLines lines.now.core.now lines.now.holds.now lines.now.faults.now }
+    requires some { 1 ≤ asked }
+    requires limit { (1 ≤ lines.now.limit) × (lines.now.limit ≤ most_limit) }
+    requires tests { AreTests lines.now.core.now lines.now.holds.now lines.now.limit tests.patterns.items tests.verdicts.items }
+    requires kinds { All (MayHave refutes) tests.verdicts.items }
+    requires few { length tests.patterns.items < 2 ^ 32 }
+    ensures { IfOk result (IsTransitionRun lines.now.core.now lines.now.holds.now asked lines.now.limit refutes) }
+{
     let netlist = lines.core.netlist();
     netlist.sound();
-    faults_have_lines();
-    faults_have_signals();
-    let scanned = insert(alloc, netlist, chains)?;
-    let said = said_of(alloc, lines, chains, scanned.netlist(), &tests)?;
-    let Tests { patterns, verdicts } = tests;
-    let certificate = certificate_text(alloc, lines, verdicts)?;
-    let stil = stil_text(alloc, lines.core, chains, patterns.as_slice(), lines.holds)?;
-    let net = write(alloc, netlist)?;
-    let scan = write(alloc, scanned.netlist())?;
-    let report = write_report(alloc, &said)?;
-    Ok(TransitionFiles {
-        net,
-        scan,
-        stil,
-        certificate,
-        report,
-        said,
-    })
-}
-
-/// What is passed where patterns detect so many faults that aren't searched.
-fn dropped(count: u64) -> Stage {
-    Stage::Answered {
-        count,
-        detected: count,
-    }
-}
-
-/// How many faults are marked.
-fn count_of(marks: &[bool]) -> u64 {
-    marks.iter().filter(|is_marked| **is_marked).count() as u64
-}
-
-/// The answers for the faults that are marked.
-fn answers_of<R: Threads + Sync, E: Engine + Sync, G: Gate + Sync>(
-    errand: &Errand<'_, E, G, R>,
-    faults: &FaultSet,
-    marks: &[bool],
-    plan: SearchPlan,
-) -> Result<Vec<Option<Found>>, NoMemory>
-    requires lines { AreSlowLines errand.now.core.now errand.now.holds.now faults.now }
-    requires limit { 1 ≤ plan.limit }
-    requires workers { 0 < plan.workers }
-    requires marks { length marks.now ≡ length (universe_of errand.now.core.now) }
-    ensures { IfOk result (λ v. AreFoundWhereLeft errand.now.core.now errand.now.holds.now plan.limit E.refutes (universe_of errand.now.core.now) marks.now v.items) }
-{
-    errand.core.netlist().sound();
-    search_left(errand, faults, marks, plan)
-}
-
-/// A first round of searches: which faults it was over, its answers for them, and how many others are detected.
-#[derive(Drop)]
-struct FirstRound {
-    searched: Vec<bool>,
-    found: Vec<Option<Found>>,
-    detected: u64,
-}
-
-/// A first round of searches for what drawn patterns leave.
-fn search_first<R: Threads + Sync, E: Engine + Sync, G: Gate + Sync>(
-    errand: &Errand<'_, E, G, R>,
-    faults: &FaultSet,
-    batch: &[Pattern],
-    plan: SearchPlan,
-) -> Result<FirstRound, NoMemory>
-    requires lines { AreSlowLines errand.now.core.now errand.now.holds.now faults.now }
-    requires limit { 1 ≤ plan.limit }
-    requires workers { 0 < plan.workers }
-    requires batch { All (IsPatternOf errand.now.core.now errand.now.holds.now) batch.now }
-    requires count { length batch.now ≤ length (universe_of errand.now.core.now) + 64 }
-    ensures { IfOk result (λ r. AreFoundWhereLeft errand.now.core.now errand.now.holds.now plan.limit E.refutes (universe_of errand.now.core.now) r.searched.items r.found.items) }
-{
-    let left = left_by(errand.alloc, errand.core, faults, batch)?;
-    let detected = (faults.len() as u64).saturating_sub(count_of(left.as_slice()));
-    errand.stage.at(0, dropped(detected));
-    let searched = first_round(errand.alloc, left.as_slice())?;
-    let found = answers_of(errand, faults, searched.as_slice(), plan)?;
-    Ok(FirstRound {
-        searched,
-        found,
-        detected,
-    })
-}
-
-/// Drawn patterns, and a first round of searches for what they leave, with the patterns of its tests.
-fn begun<R: Threads + Sync, E: Engine + Sync, G: Gate + Sync>(
-    errand: &Errand<'_, E, G, R>,
-    faults: &FaultSet,
-    plan: TransitionPlan,
-) -> Result<(Vec<Pattern>, FirstRound), NoMemory>
-    requires lines { AreSlowLines errand.now.core.now errand.now.holds.now faults.now }
-    requires limit { 1 ≤ plan.search.limit }
-    requires workers { 0 < plan.search.workers }
-    ensures patterns { IfOk result (λ b. All (IsPatternOf errand.now.core.now errand.now.holds.now) b.0.items) }
-    ensures few { IfOk result (λ b. length b.0.items ≤ length (universe_of errand.now.core.now) + 64) }
-    ensures found { IfOk result (λ b. AreFoundWhereLeft errand.now.core.now errand.now.holds.now plan.search.limit E.refutes (universe_of errand.now.core.now) b.1.searched.items b.1.found.items) }
-{
-    let batch = batch_of(errand.alloc, errand.core, plan.seed, errand.holds)?;
-    let first = search_first(errand, faults, batch.as_slice(), plan.search)?;
-    let patterns = with_tests(errand.alloc, batch, first.found.as_slice(), plan.seed)?;
-    Ok((patterns, first))
-}
-
-/// The answers for all faults that are left behind a first round: its own, and those of a second round over the others.
-fn search_rest<R: Threads + Sync, E: Engine + Sync, G: Gate + Sync>(
-    errand: &Errand<'_, E, G, R>,
-    faults: &FaultSet,
-    first: FirstRound,
-    left: &[bool],
-    plan: SearchPlan,
-) -> Result<Vec<Option<Found>>, NoMemory>
-    requires lines { AreSlowLines errand.now.core.now errand.now.holds.now faults.now }
-    requires limit { 1 ≤ plan.limit }
-    requires workers { 0 < plan.workers }
-    requires first { AreFoundWhereLeft errand.now.core.now errand.now.holds.now plan.limit E.refutes (universe_of errand.now.core.now) first.searched.items first.found.items }
-    requires left { length left.now ≡ length (universe_of errand.now.core.now) }
-    ensures { IfOk result (λ v. AreFoundWhereLeft errand.now.core.now errand.now.holds.now plan.limit E.refutes (universe_of errand.now.core.now) left.now v.items) }
-{
-    let FirstRound {
-        searched,
-        found,
-        detected,
-    } = first;
-    let rest = second_round(errand.alloc, left, found.as_slice())?;
-    let others = detected
-        .saturating_add(count_of(searched.as_slice()))
-        .saturating_add(count_of(rest.as_slice()));
-    let count = faults.len() as u64;
-    errand.stage.at(0, dropped(count.saturating_sub(others)));
-    let more = answers_of(errand, faults, rest.as_slice(), plan)?;
-    Ok(all_answers(left, found, more))
-}
-
-/// Tests of these faults: two rounds of searches, of which the second is over what the patterns of the first leave, and of all patterns those that are
-/// needed.
-fn slow_tests<R: Threads + Sync, E: Engine + Sync, G: Gate + Sync>(
-    errand: &Errand<'_, E, G, R>,
-    faults: &FaultSet,
-    plan: TransitionPlan,
-) -> Result<Tests, NoMemory>
-    requires lines { AreSlowLines errand.now.core.now errand.now.holds.now faults.now }
-    requires limit { 1 ≤ plan.search.limit }
-    requires workers { 0 < plan.search.workers }
-    ensures tests { IfOk result (λ t. AreTests errand.now.core.now errand.now.holds.now plan.search.limit t.patterns.items t.verdicts.items) }
-    ensures kinds { IfOk result (λ t. All (MayHave E.refutes) t.verdicts.items) }
-    ensures few { IfOk result (λ t. length t.patterns.items < 2 ^ 32) }
-{
-    let count = faults.len() as u64;
-    errand.stage.at(0, Stage::Begun { count });
-    let (patterns, first) = begun(errand, faults, plan)?;
-    let left = left_by(errand.alloc, errand.core, faults, patterns.as_slice())?;
-    let found = search_rest(errand, faults, first, left.as_slice(), plan.search)?;
-    let lines = SlowLines {
-        core: errand.core,
-        faults,
-        holds: errand.holds,
-        limit: plan.search.limit,
-        seed: plan.seed,
-    };
-    tests_of(errand.alloc, &lines, patterns, found)
+    let chains = stitch(alloc, netlist.cells(), asked)?;
+    let files = texts_of(alloc, lines, &chains, tests)?;
+    written_is_run();
+    Ok(files)
 }
 
 /// Makes the five files of a design's transition faults with these inputs held. Whatever the number of workers, the files are good, and what they
@@ -312,13 +303,11 @@ pub fn transition_files<R: Threads + Sync, E: Engine + Sync, G: Gate + Sync>(
     requires held { AreHoldsOf errand.now.core.now errand.now.holds.now }
     ensures { IfOk result (IsTransitionRun errand.now.core.now errand.now.holds.now plan.chains plan.search.limit E.refutes) }
 {
-    let alloc = errand.alloc;
     let netlist = errand.core.netlist();
     netlist.sound();
     few_faults();
-    let chains = stitch(alloc, netlist.cells(), plan.chains)?;
-    let faults = universe(alloc, netlist)?;
-    let tests = slow_tests(errand, &faults, plan)?;
+    let faults = universe(errand.alloc, netlist)?;
+    let tests = slow_tests(errand, &faults, plan.seed, plan.search)?;
     let lines = SlowLines {
         core: errand.core,
         faults: &faults,
@@ -326,7 +315,5 @@ pub fn transition_files<R: Threads + Sync, E: Engine + Sync, G: Gate + Sync>(
         limit: plan.search.limit,
         seed: plan.seed,
     };
-    let files = texts_of(alloc, &lines, &chains, tests)?;
-    written_is_run();
-    Ok(files)
+    files_of(errand.alloc, &lines, plan.chains, tests)
 }

@@ -9,6 +9,7 @@
 #![tactic(auto)]
 
 mod files;
+mod rounds;
 mod truth;
 
 pub use files::{TransitionFiles, TransitionPlan, transition_files};

@@ -13,17 +13,15 @@ use Rattle.statement.specs.Netlists.{Netlist}
 use Rattle.netlist.proofs.Settling.{zip_from}
 use Rattle.statement.specs.Patterns.{Pattern, IsDetectedAt}
 use Rattle.word_sim.specs.Hits.{LastMarked}
-use Rattle.word_sim.specs.inner.Packed.{AreGoodFor, AreSettledWords, IsMarked, IsUsed}
-use Rattle.events.specs.Standing.{Standing}
-use Rattle.observed_points.specs.declared.points.Points.{Points}
-use Rattle.observed_points.specs.Points.{ArePoints, point_of}
+use Rattle.word_sim.specs.inner.Packed.{AreGoodFor, IsMarked, IsUsed}
+use Rattle.observed_points.specs.Points.{point_of}
 use Rattle.word_sim.specs.inner.Found.{IsFrom, IsMoved, IsTold}
 use Rattle.word_sim.proofs.LastFrom.{from_part}
 use Rattle.word_sim.proofs.WordDetection.{some_below}
 use Rattle.transition_frames.specs.Frames.{frames_of, frame_fault}
 use Rattle.transition_frames.proofs.Detecting.{frames_detect}
 use Rattle.transition_sim.specs.Detections.{IsTransitionDetectedAt, LastTransition}
-use Rattle.transition_sim.specs.inner.Launches.{AreFrames, AreFramesFrom, AreSecond, AreTold, AreToldBelow, IsLaunched}
+use Rattle.transition_sim.specs.inner.Launches.{AreFramesFrom, AreSecond, AreTold, AreToldBelow, IsLaunched}
 use Rattle.transition_sim.proofs.WordsLaunched.{all_again, second_good, marks_marked, last_on_frames}
 
 -- nothing is told yet
@@ -74,18 +72,6 @@ part_up n patterns part start end order is faults known told later are = record 
       → IsFrom (frames_of n f) patterns start (frame_fault n f) last
   told_from f None last none m = from_part (frames_of n f) patterns part start end order is (frame_fault n f) last none m
   told_from f (Some w) last was m = subst (IsFrom (frames_of n f) patterns start (frame_fault n f)) (sym m) was
-
--- ---- the words of both frames
-
--- words that settle take the place of those before
-pub frames_kept : (first second first' second' : Standing ℕ) (points : Points) → AreFrames first second points → first'.netlist ≡ first.netlist → AreSettledWords first.netlist first'.values
-    → second'.netlist ≡ second.netlist → AreSettledWords second.netlist second'.values → AreFrames first' second' points
-frames_kept first second first' second' points are one one_settled two two_settled = record {
-  same = one ∙ (are.same ∙ sym two);
-  first_settled = subst (λ (m : Netlist). AreSettledWords m first'.values) (sym one) one_settled;
-  second_settled = subst (λ (m : Netlist). AreSettledWords m second'.values) (sym two) two_settled;
-  points_are = subst (λ (m : Netlist). ArePoints m points.seen.items points.first.items points.numbers.items) (sym two) are.points_are;
-}
 
 -- ---- from the two frames to the transition fault
 

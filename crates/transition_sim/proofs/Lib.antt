@@ -2,3 +2,4 @@ pub mod Answering
 pub mod WordsLaunched
 pub mod LastTold
 pub mod FrameLine
+pub mod FrameWords

@@ -18,7 +18,7 @@ use Rattle.netlist.proofs.Alike.{settles_once}
 use Rattle.netlist.proofs.Lists.{All-from_contains, contains_filter, contains_map, contains_head, contains_tail, decides_beq, map_map}
 use Rattle.netlist.proofs.Placed.{signal_below}
 use Rattle.netlist.proofs.WellFormed.{one_pin}
-use Rattle.events.specs.Words.{bit_of, ones, words}
+use Rattle.events.specs.Words.{bit_of, ones}
 use Rattle.events.proofs.WordBits.{bit_of_and, bit_of_xor, bit_line, words_as_bits}
 use Rattle.word_sim.specs.Hits.{LastDetected, LastMarked}
 use Rattle.word_sim.specs.inner.Packed.{AreGoodFor, IsMarked, IsUsed}
@@ -230,15 +230,6 @@ taken_behind n seen k e l = ap (drop k) e ∙ drop_at n.outputs (taken n) k (sym
 
 pub taken_slice : (n : Netlist) (seen : List ℕ) (k : ℕ) → seen ≡ watched n → k ≡ length n.outputs → take (length seen - k) (drop k seen) ≡ taken n
 taken_slice n seen k e l = take_all (length seen - k) (drop k seen) (omega (arith, length-drop k seen)) ∙ taken_behind n seen k e l
-
--- words that are driven for the second frame
-pub second_is : (n : Netlist) (first second inputs state ids pins : List ℕ) → ((d : ℕ) → Settles (words None) n inputs state (at second d))
-    → inputs ≡ map (at first 0) ids → ids ≡ n.inputs → state ≡ map (at first 0) pins → pins ≡ taken n → AreSecond n first second
-second_is n first second inputs state ids pins settles i ids_are s pins_are = record {
-  settles = λ d.
-      subst (λ (x : List ℕ). Settles (words None) n (inputs_again n first) x (at second d)) (s ∙ ap (map (at first 0)) pins_are)
-      (subst (λ (x : List ℕ). Settles (words None) n x state (at second d)) (i ∙ ap (map (at first 0)) ids_are) (settles d));
-}
 
 pub source_low : (n : Netlist) → IsSound n → (f : Fault) → IsLineOf n f.line → (x m : ℕ) → x ≡ source_of n f.line → m ≡ length (signals n) → x < m
 source_low n sound f valid x m e s =

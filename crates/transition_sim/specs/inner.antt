@@ -1,2 +1,3 @@
 -- What the proofs of this crate need and no caller has to read.
 pub mod Launches
+pub mod Tasks

@@ -1,15 +1,16 @@
 //! Up to 64 patterns in two frames: which of them launch a transition at a line, and the words behind the launch.
-ghost use Rattle.std.specs.Prelude.{◌≡◌, ◌<◌, [], length, map, IfOk, OnOk};
+ghost use Rattle.std.specs.Prelude.{◌≡◌, ◌<◌, length, map, IfOk, OnOk};
+ghost use Rattle.netlist.specs.Conditions.{IsSound};
 ghost use Rattle.netlist.specs.Lines.{IsLineOf};
 ghost use Rattle.statement.specs.Netlists.{signals};
-ghost use Rattle.word_sim.specs.inner.Packed.{AreSettledWords};
 ghost use Rattle.observed_points.specs.Points.{ArePoints};
 ghost use Rattle.netlist.specs.Settled.{at};
 ghost use Rattle.std.specs.List.{All};
-ghost use Rattle.transition_sim.specs.inner.Launches.{AreSecond, IsLaunched};
+ghost use Rattle.transition_sim.specs.inner.Launches.{IsBehind, IsLaunched, state_after};
+ghost use Rattle.transition_sim.specs.inner.Tasks.{IsFrame};
 
 use events::{Events, Words};
-use netlist::{Fault, Netlist, SignalId};
+use netlist::{Core, Fault, Netlist, SignalId};
 use observed_points::Points;
 use std::alloc::{AllocError, Global};
 use transition_frames::source_of;
@@ -26,26 +27,40 @@ fn words_of(alloc: Global, first: &[u64], ids: &[SignalId]) -> Result<Vec<u64>, 
     Ok(words)
 }
 
+/// The words of what the cells take in the first frame.
+#[tactic(auto, using(crate::proofs::WordsLaunched::taken_read, crate::proofs::WordsLaunched::taken_slice))]
+fn state_words(
+    alloc: Global,
+    netlist: &Netlist,
+    points: &Points,
+    first: &[u64],
+) -> Result<Vec<u64>, AllocError>
+    requires sound { IsSound netlist.now }
+    requires points { ArePoints netlist.now points.now.seen.items points.now.first.items points.now.numbers.items }
+    requires size { length first.now ≡ length (signals netlist.now) }
+    ensures { IfOk result (λ v. v.items ≡ state_after netlist.now first.now) }
+{
+    words_of(alloc, first, &points.seen[netlist.outputs().len()..])
+}
+
 /// The words of the second frame, where the inputs stay and each cell has what it took in the first.
 pub(crate) fn next_frame(
     alloc: Global,
+    core: &Core,
+    points: &Points,
     first: &Events<'_, u64>,
     second: &mut Events<'_, u64>,
-    points: &Points,
 ) -> Result<(), AllocError>
-    requires netlist { second.old.netlist ≡ first.now.netlist }
-    requires points { ArePoints second.old.netlist points.now.seen.items points.now.first.items points.now.numbers.items }
-    requires settled { AreSettledWords second.old.netlist second.old.values }
-    ensures netlist { second.new.netlist ≡ second.old.netlist }
-    ensures settled { AreSettledWords second.old.netlist second.new.values }
-    ensures behind { OnOk result (AreSecond second.old.netlist first.now.values second.new.values) }
-    ensures trail { OnOk result (second.new.trail ≡ []) }
+    requires points { ArePoints core.now points.now.seen.items points.now.first.items points.now.numbers.items }
+    requires first { first.now.netlist ≡ core.now }
+    requires second { IsFrame core.now second.old }
+    ensures second { IsFrame core.now second.new }
+    ensures behind { OnOk result (IsBehind core.now first.now.values second.new) }
 {
-    let netlist = first.core().netlist();
+    let netlist = core.netlist();
     netlist.sound();
     let inputs = words_of(alloc, first.values(), netlist.inputs())?;
-    let pins = &points.seen[netlist.outputs().len()..];
-    let state = words_of(alloc, first.values(), pins)?;
+    let state = state_words(alloc, netlist, points, first.values())?;
     second.drive(&Words { fault: None }, &inputs, &state);
     Ok(())
 }

@@ -12,6 +12,7 @@ ghost use Rattle.word_sim.specs.inner.Packed.{IsUsed};
 ghost use Rattle.observed_points.specs.Points.{point_of};
 ghost use Rattle.transition_sim.specs.Detections.{LastTransition};
 ghost use Rattle.transition_sim.specs.inner.Launches.{AreFramesFrom, AreTold, IsBehind, IsPart};
+ghost use Rattle.transition_sim.specs.inner.Tasks.{IsFrame, IsTask};
 
 use crate::launching::{launched, next_frame};
 use cubes::Pattern;
@@ -20,8 +21,16 @@ use fault_universe::FaultSet;
 use netlist::{Core, Fault, Netlist, NoMemory, Point};
 use observed_points::{Points, point_at};
 use std::alloc::{AllocError, Global};
-use std::marker::Model;
 use word_sim::{good_events, last_marked, next_patterns, used_bits};
+
+/// What is told of: these faults of a netlist, by these patterns, at its points.
+#[derive(Clone, Copy)]
+struct Task<'a> {
+    core: &'a Core,
+    points: &'a Points,
+    faults: &'a FaultSet,
+    patterns: &'a [Pattern],
+}
 
 /// Up to 64 patterns in the first of two frames: their words there, and the place of the first of them among all.
 #[derive(Drop)]
@@ -92,104 +101,101 @@ fn tell_all(
     }
 }
 
-/// The words of both frames of a netlist, and what is kept of its points. Contracts see it as the netlist.
-#[derive(Drop)]
-struct Frames<'a> {
-    first: Events<'a, u64>,
-    second: Events<'a, u64>,
-    points: Points,
-}
-
-impl<'a> Model for Frames<'a> {
-    ghost use Rattle.statement.specs.Netlists.{Netlist};
-    ghost use Rattle.transition_sim.specs.inner.Launches.{AreFrames};
-
-    ghost Value = { Netlist };
-
-    ghost view = { λ f. f.second.netlist };
-
-    ghost invariant = { λ f. AreFrames f.first f.second f.points };
-}
-
-impl<'a> Frames<'a> {
-    /// Room for all patterns, and none yet.
-    fn new(alloc: Global, core: &'a Core) -> Result<Frames<'a>, AllocError>
-        ensures { IfOk result (λ f. f ≡ core.now) }
-    {
-        let points = Points::of(alloc, core)?;
-        let first = good_events(alloc, core, &[])?;
-        let second = good_events(alloc, core, &[])?;
-        Ok(Frames {
-            first,
-            second,
-            points,
-        })
-    }
-
-    /// Tells of each fault what up to 64 patterns before a place do, where the later ones tell nothing. Answers where these begin.
-    fn tell_part(
-        &mut self,
-        alloc: Global,
-        faults: &FaultSet,
-        patterns: &[Pattern],
-        end: usize,
-        told: &mut Vec<Option<(u32, Point)>>,
-    ) -> Result<usize, AllocError>
-        requires wide { All (HasWidthsOf self.old) patterns.now }
-        requires lines { All (λ (f : FaultOf). IsLineOf self.old f.line) faults.now }
-        requires few { length faults.now < 2 ^ 32 }
-        requires count { length patterns.now + 64 ≤ 2 ^ 32 }
-        requires end { (0 < end) × (end ≤ length patterns.now) }
-        requires later { AreFramesFrom self.old patterns.now end faults.now told.old.items }
-        ensures told { IfOk result (λ start. (start < end) × AreFramesFrom self.old patterns.now start faults.now told.new.items) }
-        ensures same { self.new ≡ self.old }
-    {
-        let start = end.saturating_sub(64);
-        let some = &patterns[start..end];
-        next_patterns(alloc, &mut self.first, some)?;
-        next_frame(alloc, &self.first, &mut self.second, &self.points)?;
-        let part = Part {
-            netlist: self.second.core().netlist(),
-            patterns: some,
-            words: self.first.values(),
-            points: &self.points,
-            start,
-        };
-        tell_all(&part, &mut self.second, faults, told);
-        Ok(start)
-    }
-
-    /// Tells where each fault is last detected, 64 patterns after another from the last ones on, where nothing is told yet.
-    fn tell(
-        &mut self,
-        alloc: Global,
-        faults: &FaultSet,
-        patterns: &[Pattern],
-        told: &mut Vec<Option<(u32, Point)>>,
-    ) -> Result<(), AllocError>
-        requires wide { All (HasWidthsOf self.old) patterns.now }
-        requires lines { All (λ (f : FaultOf). IsLineOf self.old f.line) faults.now }
-        requires few { length faults.now < 2 ^ 32 }
-        requires count { length patterns.now + 64 ≤ 2 ^ 32 }
-        requires none { told.old.items ≡ replicate (length faults.now) None }
-        ensures { OnOk result (AreFramesFrom self.old patterns.now 0 faults.now told.new.items) }
-    {
-        let mut end = patterns.len();
-        while end > 0 {
-            end = self.tell_part(alloc, faults, patterns, end, told)?;
-        }
-        Ok(())
-    }
-}
-
-fn none_told(alloc: Global, count: usize) -> Result<Vec<Option<(u32, Point)>>, AllocError>
-    ensures { IfOk result (λ v. v.items ≡ replicate count None) }
+/// Tells of each fault what up to 64 patterns before a place do, where the later ones tell nothing. Answers where these begin.
+fn tell_part(
+    alloc: Global,
+    task: &Task<'_>,
+    first: &mut Events<'_, u64>,
+    second: &mut Events<'_, u64>,
+    end: usize,
+    told: &mut Vec<Option<(u32, Point)>>,
+) -> Result<usize, AllocError>
+    requires task { IsTask task.now }
+    requires first { IsFrame task.now.core.now first.old }
+    requires second { IsFrame task.now.core.now second.old }
+    requires end { (0 < end) × (end ≤ length task.now.patterns.now) }
+    requires later { AreFramesFrom task.now.core.now task.now.patterns.now end task.now.faults.now told.old.items }
+    ensures first { IsFrame task.now.core.now first.new }
+    ensures second { IsFrame task.now.core.now second.new }
+    ensures told { IfOk result (λ start. (start < end) × AreFramesFrom task.now.core.now task.now.patterns.now start task.now.faults.now told.new.items) }
 {
-    let mut told = Vec::with_capacity(alloc, count)?;
-    for _done in 0..count {
-        told.push(None)?;
+    let start = end.saturating_sub(64);
+    let some = &task.patterns[start..end];
+    next_patterns(alloc, first, some)?;
+    next_frame(alloc, task.core, task.points, first, second)?;
+    let part = Part {
+        netlist: task.core.netlist(),
+        patterns: some,
+        words: first.values(),
+        points: task.points,
+        start,
+    };
+    tell_all(&part, second, task.faults, told);
+    Ok(start)
+}
+
+/// Tells where each fault is last detected, 64 patterns after another from the last ones on, where nothing is told yet.
+fn tell(
+    alloc: Global,
+    task: &Task<'_>,
+    first: &mut Events<'_, u64>,
+    second: &mut Events<'_, u64>,
+    told: &mut Vec<Option<(u32, Point)>>,
+) -> Result<(), AllocError>
+    requires task { IsTask task.now }
+    requires first { IsFrame task.now.core.now first.old }
+    requires second { IsFrame task.now.core.now second.old }
+    requires none { told.old.items ≡ replicate (length task.now.faults.now) None }
+    ensures { OnOk result (AreFramesFrom task.now.core.now task.now.patterns.now 0 task.now.faults.now told.new.items) }
+{
+    let mut end = task.patterns.len();
+    while end > 0 {
+        end = tell_part(alloc, task, first, second, end, told)?;
     }
-    Ok(told)
+    Ok(())
+}
+
+/// The words of a frame, before any pattern.
+#[tactic(auto, using(crate::proofs::FrameWords::frame_good))]
+fn frame(alloc: Global, core: &Core) -> Result<Events<'_, u64>, AllocError>
+    ensures { IfOk result (IsFrame core.now) }
+{
+    let events = good_events(alloc, core, &[])?;
+    Ok(events)
+}
+
+/// The same with the words of a second frame, which are made for it.
+fn tell_second(
+    alloc: Global,
+    task: &Task<'_>,
+    first: &mut Events<'_, u64>,
+    told: &mut Vec<Option<(u32, Point)>>,
+) -> Result<(), AllocError>
+    requires task { IsTask task.now }
+    requires first { IsFrame task.now.core.now first.old }
+    requires none { told.old.items ≡ replicate (length task.now.faults.now) None }
+    ensures { OnOk result (AreFramesFrom task.now.core.now task.now.patterns.now 0 task.now.faults.now told.new.items) }
+{
+    let mut second = frame(alloc, task.core)?;
+    let done = tell(alloc, task, first, &mut second, told);
+    drop(second);
+    done
+}
+
+/// The same with those of both.
+fn tell_both(
+    alloc: Global,
+    task: &Task<'_>,
+    told: &mut Vec<Option<(u32, Point)>>,
+) -> Result<(), AllocError>
+    requires task { IsTask task.now }
+    requires none { told.old.items ≡ replicate (length task.now.faults.now) None }
+    ensures { OnOk result (AreFramesFrom task.now.core.now task.now.patterns.now 0 task.now.faults.now told.new.items) }
+{
+    let mut first = frame(alloc, task.core)?;
+    let done = tell_second(alloc, task, &mut first, told);
+    drop(first);
+    done
 }
 
 /// The same in room that is made for it.
@@ -205,14 +211,22 @@ fn tell_anew(
     requires few { length faults.now < 2 ^ 32 }
     requires count { length patterns.now + 64 ≤ 2 ^ 32 }
     requires none { told.old.items ≡ replicate (length faults.now) None }
-    ensures { OnOk result (AllZip (LastTransition core.now patterns.now) faults.now told.new.items) }
+    ensures { OnOk result (AreFramesFrom core.now patterns.now 0 faults.now told.new.items) }
 {
-    core.netlist().sound();
-    let mut frames = Frames::new(alloc, core)?;
-    frames.tell(alloc, faults, patterns, told)
+    let points = Points::of(alloc, core)?;
+    let task = Task {
+        core,
+        points: &points,
+        faults,
+        patterns,
+    };
+    let done = tell_both(alloc, &task, told);
+    drop(points);
+    done
 }
 
 /// For each transition fault the last pattern that detects it by launch on capture and the first point at which it does, over any number of patterns.
+#[tactic(auto, using(crate::proofs::LastTold::all_told))]
 pub fn last_tells2(
     alloc: Global,
     core: &Core,
@@ -225,7 +239,8 @@ pub fn last_tells2(
     requires count { length patterns.now + 64 ≤ 2 ^ 32 }
     ensures { IfOk result (λ v. AllZip (LastTransition core.now patterns.now) faults.now v.items) }
 {
-    let mut told = none_told(alloc, faults.len() as usize)?;
+    core.netlist().sound();
+    let mut told = vec![in alloc; None; faults.len() as usize]?;
     tell_anew(alloc, core, faults, patterns, &mut told)?;
     Ok(told)
 }

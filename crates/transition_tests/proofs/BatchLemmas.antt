@@ -1,33 +1,34 @@
--- The batch of drawn patterns: the cube that they are drawn from, how it grows, that they are 64, and that they are patterns of the netlist.
-use Rattle.std.proofs.Common.{◌≡◌, ℕ, zero, suc, ◌+◌, ◌-◌, ◌<◌, ◌≤◌, Bool, List, [], ◌∷◌, ◌++◌, length, map, append_assoc, append-nil, replicate, take, get_or, Option, Some, None, refl, sym, ◌∙◌, ap, arith}
-use Rattle.std.specs.List.{All, slice_get}
-use Rattle.std.proofs.lemmas.List.{length-map, length-replicate, map_push, take_more}
+-- The batch of drawn patterns: how it grows, that they are 64, that they are patterns of the netlist, and which faults it leaves.
+use Rattle.std.proofs.Common.{◌≡◌, not, ℕ, zero, suc, ◌+◌, ◌-◌, ◌<◌, ◌≤◌, Bool, true, false, List, [], ◌∷◌, ◌++◌, length, map, append_assoc, append-nil, replicate, take, get_or, Option, refl, sym, ◌∙◌, ap, arith}
+use Rattle.std.specs.List.{All}
+use Rattle.std.specs.Option.{is_some}
+use Rattle.statement.specs.declared.lines.Point.{Point}
+use Rattle.std.proofs.lemmas.List.{length-replicate, map_push, take_more}
 use Rattle.std.proofs.lemmas.List.Elements.{All-replicate}
-use Rattle.std.proofs.lemmas.Option.{get_or_from_slice_get, slice_get_within}
 use Rattle.std.proofs.lemmas.Slice.Zip.{AllZip-long}
 use Rattle.rand_core.specs.Stream.{Stream}
-use Rattle.statement.specs.declared.kinds.Tri.{Tri}
-use Rattle.statement.specs.declared.kinds.Tri.TheVariants.{X}
 use Rattle.netlist.specs.Holds.{AreHoldsOf}
-use Rattle.statement.specs.Netlists.{Netlist, cells}
-use Rattle.cubes.specs.Cubes.{Cube, AgreesWith, IsCubeOf, IsPatternOf}
+use Rattle.statement.specs.Netlists.{Netlist}
+use Rattle.cubes.specs.Cubes.{Cube, AgreesWith, IsCubeOf, IsPatternOf, open_cube}
+use Rattle.cubes.proofs.OpenLemmas.{open_fits}
 use Rattle.statement.specs.Patterns.{Holds, Pattern}
-use Rattle.statement.specs.Values.{known}
-use Rattle.tri.specs.Labels.{held_value}
 use Rattle.cubes.specs.Filling.{filled_cube, words_after_cube, filled_all}
 use Rattle.cubes.proofs.FillLemmas.{filled_agree, filled_fit}
-use Rattle.transition_tests.specs.Batches.{open_cube, drawn}
+use Rattle.transition_tests.specs.Batches.{drawn}
 
--- ---- the values of inputs, one after the other
+-- ---- whether each fault is left, one after the other
 
-pub values_more : (holds : Holds) (k : ℕ) (old new : List Tri) (h : Option Bool) (v : Tri) → slice_get holds k ≡ Some h → v ≡ held_value h
-    → old ≡ map held_value (take k holds) → new ≡ old ++ v ∷ [] → new ≡ map held_value (take (k + 1) holds)
-values_more holds k old new h v at is before added =
-    let there : get_or holds k None ≡ h = get_or_from_slice_get holds k h None at in
-    let next : take (k + 1) holds ≡ take k holds ++ h ∷ [] =
-    take_more holds k None (slice_get_within holds k h at) ∙ ap (λ (o : Option Bool). take k holds ++ o ∷ []) there in
-    added ∙ (ap (λ (vs : List Tri). vs ++ v ∷ []) before ∙ (ap (λ (w : Tri). map held_value (take k holds) ++ w ∷ []) is
-    ∙ (sym (map_push held_value (take k holds) h) ∙ ap (λ (os : Holds). map held_value os) (sym next))))
+flipped : (a b : Bool) → b ≡ not a → a ≡ not b
+flipped true b e = sym (ap not e)
+flipped false b e = sym (ap not e)
+
+pub undetected_more : (ls : List (Option (ℕ × Point))) (k : ℕ) (d : Option (ℕ × Point)) (old new : List Bool) (b : Bool) → k < length ls → is_some (get_or ls k d) ≡ not b
+    → old ≡ map (λ (o : Option (ℕ × Point)). not (is_some o)) (take k ls) → new ≡ old ++ b ∷ [] → new ≡ map (λ (o : Option (ℕ × Point)). not (is_some o)) (take (k + 1) ls)
+undetected_more ls k d old new b lt not_is before added =
+    let is : b ≡ not (is_some (get_or ls k d)) = flipped b (is_some (get_or ls k d)) not_is in
+    let IsLeft : Option (ℕ × Point) → Bool = λ o. not (is_some o) in
+    added ∙ (ap (λ (bs : List Bool). bs ++ b ∷ []) before ∙ (ap (λ (w : Bool). map IsLeft (take k ls) ++ w ∷ []) is
+    ∙ (sym (map_push IsLeft (take k ls) (get_or ls k d)) ∙ ap (λ (os : List (Option (ℕ × Point))). map IsLeft os) (sym (take_more ls k d lt)))))
 
 -- ---- one pattern more
 
@@ -64,19 +65,6 @@ drawn_length count c words = sym (AllZip-long AgreesWith (drawn count c words) (
 
 pub drawn_count : (count : ℕ) (c : Cube) (words : Stream) → length (drawn count c words) ≡ count
 drawn_count count c words = drawn_length count c words ∙ length-replicate count c
-
-held_there : (holds : Holds) (k : ℕ) (b : Bool) → slice_get holds k ≡ Some (Some b) → slice_get (map held_value holds) k ≡ Some (known b)
-held_there [] k b e = cc
-held_there (h ∷ hs) zero b e = (let here : h ≡ Some b = cc in ap (λ (o : Option Bool). Some (held_value o)) here)
-held_there (h ∷ hs) (suc k) b e = held_there hs k b e
-
--- the open cube is one of the netlist that obeys the held inputs
-open_fits : (n : Netlist) (holds : Holds) → AreHoldsOf n holds → IsCubeOf n holds (open_cube n holds)
-open_fits n holds are = record {
-  inputs = length-map holds held_value ∙ are;
-  cells = length-replicate (length (cells n)) X;
-  held = λ k b e. held_there holds k b e;
-}
 
 pub drawn_obey : (n : Netlist) (holds : Holds) → AreHoldsOf n holds → (count : ℕ) (words : Stream) → All (IsPatternOf n holds) (drawn count (open_cube n holds) words)
 unfolding drawn

@@ -1,8 +1,9 @@
 -- The cubes of tests, and patterns that have their bits.
-use Rattle.std.proofs.Common.{◌≡◌, ℕ, zero, suc, ◌+◌, ◌-◌, ◌<◌, ◌≤◌, ◌^◌, inl, inr, Bool, true, false, List, [], ◌∷◌, ◌++◌, length, length-append, get_or, Option, Some, None, refl, sym, ◌∙◌, ap, subst, arith}
+use Rattle.std.proofs.Common.{take, append-nil, ◌≡◌, ℕ, zero, suc, ◌+◌, ◌-◌, ◌<◌, ◌≤◌, ◌^◌, inl, inr, Bool, true, false, List, [], ◌∷◌, ◌++◌, length, length-append, get_or, Option, Some, None, refl, sym, ◌∙◌, ap, subst, arith}
 use Rattle.std.specs.List.{All, AllZip, Contains, slice_get}
 use Rattle.std.proofs.lemmas.Bool.{cases_lt}
-use Rattle.std.proofs.lemmas.List.{get_or-append_right, get_or_past, length-map}
+use Rattle.std.proofs.lemmas.Grind.{flat_map-append}
+use Rattle.std.proofs.lemmas.List.{get_or-append_right, get_or_past, length-map, take_more}
 use Rattle.std.proofs.lemmas.List.Elements.{All-nil, All-cons, All-append, Contains-append_right}
 use Rattle.statement.specs.declared.kinds.Tri.{Tri}
 use Rattle.statement.specs.declared.kinds.Tri.TheVariants.{Zero, One, X}
@@ -24,7 +25,7 @@ use Rattle.evidence.specs.declared.engine.Found.TheVariants.{Test, Closed, Refut
 use Rattle.transition_frames.specs.Frames.{frames_of, in_first}
 use Rattle.transition_frames.proofs.Framed.{cells_framed}
 use Rattle.transition.specs.Searches.{IsFoundIfLeft}
-use Rattle.transition_tests.specs.Making.{cubes_in}
+use Rattle.transition_tests.specs.Making.{cube_of, cubes_in}
 use Rattle.transition_tests.specs.inner.Cubes.{HasAgreeing}
 
 -- ---- the cubes of answers
@@ -55,6 +56,13 @@ module _ (n : Netlist) (holds : Holds) (limit : ℕ) (refutes : Bool) where
   all_cubes (f ∷ fs) left [] size each = absurd (omega arith)
   all_cubes (f ∷ fs) left (x ∷ xs) size each =
       one_cube f (left zero) x xs (each zero f refl) (all_cubes fs (λ k. left (suc k)) xs (omega arith) (λ k g at. each (suc k) g at))
+
+pub cubes_more : (found : List (Option Found)) (i : ℕ) (x : Option Found) (old new : List Cube) → i < length found → x ≡ get_or found i x → old ≡ cubes_in (take i found)
+    → new ≡ old ++ cube_of x → new ≡ cubes_in (take (i + 1) found)
+cubes_more found i x old new lt at before added =
+    let next : take (i + 1) found ≡ take i found ++ x ∷ [] = take_more found i x lt ∙ ap (λ (o : Option Found). take i found ++ o ∷ []) (sym at) in
+    added ∙ (ap (λ (cs : List Cube). cs ++ cube_of x) before ∙ (ap (λ (cs : List Cube). cubes_in (take i found) ++ cs) (sym (append-nil (cube_of x)))
+    ∙ (sym (flat_map-append cube_of (take i found) (x ∷ [])) ∙ ap cubes_in (sym next))))
 
 pub few_cubes : (found : List (Option Found)) → length (cubes_in found) ≤ length found
 few_cubes [] = omega arith

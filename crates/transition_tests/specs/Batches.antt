@@ -1,16 +1,14 @@
 -- The batch of patterns that are drawn, and which faults it leaves to be searched. (Fault dropping: Bushnell and Agrawal, Essentials of Electronic
 -- Testing.)
-use Rattle.std.specs.Prelude.{ℕ, Bool, true, false, List, length, map, replicate, None}
+use Rattle.std.specs.Prelude.{ℕ, Bool, true, false, List, length, replicate, None}
 use Rattle.std.specs.List.{AllZip}
 use Rattle.rand_core.specs.Stream.{Stream}
 use Rattle.rand_core.specs.Steps.{stream_of, steps_u32}
 use Rattle.rand_pcg.specs.Lcg.{started, increment_of}
 use Rattle.rand_pcg.specs.Pcg.{multiplier_64, pcg32}
-use Rattle.statement.specs.declared.kinds.Tri.TheVariants.{X}
 use Rattle.statement.specs.declared.lines.Fault.{Fault}
-use Rattle.statement.specs.Netlists.{Netlist, cells}
-use Rattle.tri.specs.Labels.{held_value}
-use Rattle.cubes.specs.Cubes.{Cube}
+use Rattle.statement.specs.Netlists.{Netlist}
+use Rattle.cubes.specs.Cubes.{Cube, open_cube}
 use Rattle.statement.specs.Patterns.{Holds, Pattern}
 use Rattle.cubes.specs.Filling.{filled_all}
 use Rattle.transition_sim.specs.Detections.{IsDetected, LastTransition}
@@ -25,10 +23,6 @@ abbrev pub AreLeftBy : Netlist → List Pattern → List Fault → List Bool →
 AreLeftBy n batch faults left = AllZip (IsLeftBy n batch) faults left
 
 -- ---- the batch
-
--- the cube that leaves each bit open but those of held inputs
-abbrev pub open_cube : Netlist → Holds → Cube
-open_cube n holds = record { inputs = map held_value holds; cells = replicate (length (cells n)) X }
 
 -- so many patterns of one cube, each filled from the words that those before it leave
 unfoldable pub drawn : ℕ → Cube → Stream → List Pattern

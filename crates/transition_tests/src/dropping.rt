@@ -4,15 +4,14 @@ ghost use Rattle.std.specs.List.{All};
 ghost use Rattle.std.specs.Option.{is_some};
 ghost use Rattle.netlist.specs.Designs.{IsDesign};
 ghost use Rattle.netlist.specs.Holds.{AreHoldsOf};
-ghost use Rattle.tri.specs.Labels.{held_value};
 ghost use Rattle.cubes.specs.Cubes.{IsPatternOf};
 ghost use Rattle.word_sim.specs.Words.{HasWidthsOf};
 ghost use Rattle.statement.specs.Faults.{universe_of};
-ghost use Rattle.transition_tests.specs.Batches.{AreLeftBy, open_cube, drawn, batch_of};
+ghost use Rattle.transition_tests.specs.Batches.{AreLeftBy, drawn, batch_of};
 
-use cubes::{Cube, Pattern, fill};
+use cubes::{Cube, Pattern, fill, open_cube};
 use fault_universe::FaultSet;
-use netlist::{Core, Holds, NoMemory, Point, Tri};
+use netlist::{Core, Holds, NoMemory, Point};
 use rand_core::Rng;
 use rand_pcg::Lcg64Xsh32;
 use std::alloc::{AllocError, Global};
@@ -23,40 +22,6 @@ const BATCH: usize = 64;
 
 /// The stream of the drawn patterns. Cubes are filled from stream 0.
 const BATCH_STREAM: u64 = 1;
-
-/// Its bit, where an input is held.
-fn value_of(bit: Option<bool>) -> Tri
-    ensures { result ≡ held_value bit }
-{
-    match bit {
-        Some(true) => Tri::One,
-        Some(false) => Tri::Zero,
-        None => Tri::X,
-    }
-}
-
-/// A value for each input: an X where it isn't held.
-fn values_of(alloc: Global, holds: &Holds, inputs: u32) -> Result<Vec<Tri>, AllocError>
-    requires { length holds.now ≡ inputs }
-    ensures { IfOk result (λ v. v.items ≡ map held_value holds.now) }
-{
-    let mut values = Vec::with_capacity(alloc, inputs as usize)?;
-    for input in 0..inputs {
-        values.push(value_of(holds.held(input)))?;
-    }
-    Ok(values)
-}
-
-/// The cube that leaves each bit open but those of held inputs.
-fn open_cube(alloc: Global, core: &Core, holds: &Holds) -> Result<Cube, AllocError>
-    requires { AreHoldsOf core.now holds.now }
-    ensures { IfOk result (λ c. c ≡ open_cube core.now holds.now) }
-{
-    core.netlist().sound();
-    let inputs = values_of(alloc, holds, core.netlist().inputs().len() as u32)?;
-    let cells = vec![in alloc; Tri::X; core.netlist().cells().len()]?;
-    Ok(Cube::new(inputs, cells))
-}
 
 /// So many patterns of one cube, each filled from the words that those before it leave.
 fn drawn<N: Rng>(
@@ -96,7 +61,11 @@ pub fn batch_of(
 fn undetected(alloc: Global, last: &[Option<(u32, Point)>]) -> Result<Vec<bool>, AllocError>
     ensures { IfOk result (λ v. v.items ≡ map (λ l. not (is_some l)) last.now) }
 {
-    last.iter().map(|l| l.is_none()).collect(alloc)
+    let mut left = Vec::with_capacity(alloc, last.len())?;
+    for l in last {
+        left.push(l.is_none())?;
+    }
+    Ok(left)
 }
 
 /// Which faults no pattern of the batch detects: those that are left to be searched.

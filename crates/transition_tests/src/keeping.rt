@@ -1,6 +1,6 @@
 //! The patterns that are the last to detect some transition fault, and what so comes of each fault. A pattern that detects what a later one does
 //! too is dropped, as in compaction in reverse order; there is no collapsing, since two transition faults of a gate's lines rarely are one.
-ghost use Rattle.std.specs.Prelude.{◌≡◌, ◌+◌, ◌≤◌, ◌<◌, ◌^◌, ℕ, Bool, length, slice_index, IfOk, IfSome};
+ghost use Rattle.std.specs.Prelude.{◌≡◌, ◌+◌, ◌≤◌, ◌<◌, ◌^◌, ℕ, Bool, false, length, slice_index, slice_index_or, IfOk, IfSome};
 ghost use Rattle.std.specs.List.{All, AllZip};
 ghost use Rattle.statement.specs.Faults.{universe_of};
 ghost use Rattle.list_core.specs.Kept.{is_last_at, kept_from, new_place};
@@ -31,6 +31,7 @@ fn verdict_of(
     ensures { IsVerdictOf (λ k. slice_index places.now k) answer last.now result }
 {
     if let Some((place, point)) = last {
+        drop(answer);
         return TransitionVerdict::Detected(places[*place as usize], *point);
     }
     match answer {
@@ -61,6 +62,25 @@ fn verdicts_of(
     Ok(verdicts)
 }
 
+/// What comes of each fault, where the patterns that aren't marked are left out.
+fn verdicts_kept(
+    alloc: Global,
+    marks: &[bool],
+    last: &[Option<(u32, Point)>],
+    found: Vec<Option<Found>>,
+) -> Result<Vec<TransitionVerdict>, AllocError>
+    requires told { AllZip IsDetectedIfTested found.items last.now }
+    requires within { All (λ l. IfSome l (λ p. p.0 < length marks.now)) last.now }
+    requires few { length marks.now + 1 < 2 ^ 32 }
+    requires marks { (k : ℕ) → slice_index_or marks.now k false ≡ is_last_at last.now k }
+    ensures { IfOk result (λ v. AreVerdictsOf (new_place (is_last_at last.now)) found.items last.now v.items) }
+{
+    let places = new_places(alloc, marks)?;
+    let verdicts = verdicts_of(alloc, found, last, &places);
+    drop(places);
+    verdicts
+}
+
 /// The patterns that are the last to detect some fault, and what comes of each fault.
 fn keep(
     alloc: Global,
@@ -75,8 +95,7 @@ fn keep(
     ensures verdicts { IfOk result (λ t. AreVerdictsOf (new_place (is_last_at last.now)) found.items last.now t.verdicts.items) }
 {
     let marks = needed(alloc, patterns.len(), last)?;
-    let places = new_places(alloc, &marks)?;
-    let verdicts = verdicts_of(alloc, found, last, &places)?;
+    let verdicts = verdicts_kept(alloc, &marks, last, found)?;
     let patterns = kept(alloc, patterns, &marks)?;
     Ok(Tests { patterns, verdicts })
 }

@@ -34,11 +34,12 @@ fn add_leaf(
     }
 }
 
-fn leaves_within(
+/// Such evidence, each beside its fault, in the order of faults.
+pub fn leaves_of(
     alloc: Global,
     faults: &FaultSet,
     verdicts: Vec<TransitionVerdict>,
-) -> Result<Vec<(Fault, Evidence)>, AllocError>
+) -> Result<Vec<(Fault, Evidence)>, NoMemory>
     requires size { length verdicts.items ≤ length faults.now }
     requires few { length faults.now < 2 ^ 32 }
     ensures { IfOk result (λ v. v.items ≡ leaves_of faults.now verdicts.items) }
@@ -50,17 +51,4 @@ fn leaves_within(
         place += 1;
     }
     Ok(leaves)
-}
-
-/// Such evidence, each beside its fault, in the order of faults.
-pub fn leaves_of(
-    alloc: Global,
-    faults: &FaultSet,
-    verdicts: Vec<TransitionVerdict>,
-) -> Result<Vec<(Fault, Evidence)>, NoMemory>
-    requires size { length verdicts.items ≤ length faults.now }
-    requires few { length faults.now < 2 ^ 32 }
-    ensures { IfOk result (λ v. v.items ≡ leaves_of faults.now verdicts.items) }
-{
-    leaves_within(alloc, faults, verdicts).map_err(|_| NoMemory)
 }

@@ -82,14 +82,15 @@ fn add_line(
     lines.push(text.as_slice(), said.outcome, said.pin)
 }
 
-fn lines_within(
+/// The lines of all transition faults, in order. `pins` has the names of the pins at the scanned netlist's outputs.
+pub fn lines_of(
     alloc: Global,
     netlist: &Netlist,
     chains: &Chains,
     pins: &NameTable,
     faults: &FaultSet,
     verdicts: &[TransitionVerdict],
-) -> Result<FaultLines, AllocError>
+) -> Result<FaultLines, NoMemory>
     requires chains { AreChainsOf netlist.now chains.now }
     requires pins { pins.now ≡ map (output_name (scanned_of netlist.now chains.now)) (scanned_of netlist.now chains.now).outputs }
     requires words { All IsBenchWord pins.now }
@@ -109,24 +110,4 @@ fn lines_within(
         lines = add_line(lines, &mut text, netlist, chains, pins, fault, verdict)?;
     }
     Ok(lines)
-}
-
-/// The lines of all transition faults, in order. `pins` has the names of the pins at the scanned netlist's outputs.
-pub fn lines_of(
-    alloc: Global,
-    netlist: &Netlist,
-    chains: &Chains,
-    pins: &NameTable,
-    faults: &FaultSet,
-    verdicts: &[TransitionVerdict],
-) -> Result<FaultLines, NoMemory>
-    requires chains { AreChainsOf netlist.now chains.now }
-    requires pins { pins.now ≡ map (output_name (scanned_of netlist.now chains.now)) (scanned_of netlist.now chains.now).outputs }
-    requires words { All IsBenchWord pins.now }
-    requires universe { faults.now ≡ universe_of netlist.now }
-    requires size { length verdicts.now ≡ length (universe_of netlist.now) }
-    requires inside { All (IsInside netlist.now) verdicts.now }
-    ensures { IfOk result (λ lines. AreLines netlist.now chains.now (universe_of netlist.now) verdicts.now lines) }
-{
-    lines_within(alloc, netlist, chains, pins, faults, verdicts).map_err(|_| NoMemory)
 }

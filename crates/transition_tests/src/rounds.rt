@@ -16,7 +16,8 @@ use crate::filling::patterns_of;
 use cubes::Pattern;
 use evidence::Found;
 use netlist::NoMemory;
-use std::alloc::{AllocError, Global};
+use std::alloc::Global;
+use std::mem;
 
 /// The first round takes each fault that is left of so many.
 const FIRST: usize = 16;
@@ -45,7 +46,8 @@ fn is_taken(many: bool, is_left: bool, place: usize) -> bool
     many && is_left && place % FIRST == 0
 }
 
-fn marked(alloc: Global, left: &[bool]) -> Result<Vec<bool>, AllocError>
+/// Which faults the first round searches: where many are left one in sixteen of them, else none.
+pub fn first_round(alloc: Global, left: &[bool]) -> Result<Vec<bool>, NoMemory>
     ensures { IfOk result (λ v. AreFirst left.now v.items) }
 {
     let many = are_many(left);
@@ -54,13 +56,6 @@ fn marked(alloc: Global, left: &[bool]) -> Result<Vec<bool>, AllocError>
         marks.push(is_taken(many, left[k], k))?;
     }
     Ok(marks)
-}
-
-/// Which faults the first round searches: where many are left one in sixteen of them, else none.
-pub fn first_round(alloc: Global, left: &[bool]) -> Result<Vec<bool>, NoMemory>
-    ensures { IfOk result (λ v. AreFirst left.now v.items) }
-{
-    marked(alloc, left).map_err(|_| NoMemory)
 }
 
 /// The patterns so far, and behind them those of a round's tests: their cubes merged in the order of faults, and filled from stream 2 of the seed.
@@ -85,11 +80,12 @@ fn is_open(left: bool, answer: &Option<Found>) -> bool
     left && answer.is_none()
 }
 
-fn unanswered(
+/// Which faults the second round searches: of those that are left all that have no answer yet.
+pub fn second_round(
     alloc: Global,
     left: &[bool],
     found: &[Option<Found>],
-) -> Result<Vec<bool>, AllocError>
+) -> Result<Vec<bool>, NoMemory>
     requires { length found.now ≡ length left.now }
     ensures { IfOk result (λ v. AreUnanswered left.now found.now v.items) }
 {
@@ -100,25 +96,15 @@ fn unanswered(
     Ok(marks)
 }
 
-/// Which faults the second round searches: of those that are left all that have no answer yet.
-pub fn second_round(
-    alloc: Global,
-    left: &[bool],
-    found: &[Option<Found>],
-) -> Result<Vec<bool>, NoMemory>
-    requires { length found.now ≡ length left.now }
-    ensures { IfOk result (λ v. AreUnanswered left.now found.now v.items) }
-{
-    unanswered(alloc, left, found).map_err(|_| NoMemory)
-}
-
 /// Puts the first round's answer for a fault that is left to its place.
 fn put(answers: &mut Vec<Option<Found>>, k: usize, left: bool, answer: Option<Found>)
     requires { k < length answers.old.items }
     ensures { answers.new.items ≡ slice_set answers.old.items k (joined left answer (slice_index_or answers.old.items k None)) }
 {
     if left && answer.is_some() {
-        answers[k] = answer;
+        drop(mem::replace(&mut answers[k], answer));
+    } else {
+        drop(answer);
     }
 }
 

@@ -28,11 +28,11 @@ module _ (n : Netlist) (patterns : List Pattern) (few : length patterns ≤ 64) 
   pub good_for : AreGoodFor n patterns values
   good_for = record { few = few; inputs = inputs; state = state; inputs_are = inputs_are; state_are = state_are; settles = settles }
 
-  pub good_words : length values ≡ length (signals n) → AreGoodWords n patterns values
-  good_words size = record {
-    size = size;
-    each = λ j p e.
-        subst (λ (s : List Bool). Settles (bits None) n p.inputs s (λ x. bit_of j (at values 0 x))) (state_are j p e)
-        (subst (λ (i : List Bool). Settles (bits None) n i (map (bit_of j) state) (λ x. bit_of j (at values 0 x))) (inputs_are j p e)
-        (words_as_bits j (let l = some_below patterns j p e in omega arith) None n inputs state (at values 0) (settles 0)));
-  }
+pub good_words : (n : Netlist) (patterns : List Pattern) (values : List ℕ) → AreGoodFor n patterns values → length values ≡ length (signals n) → AreGoodWords n patterns values
+good_words n patterns values good size = record {
+  size = size;
+  each = λ j p e.
+      subst (λ (s : List Bool). Settles (bits None) n p.inputs s (λ x. bit_of j (at values 0 x))) (good.state_are j p e)
+      (subst (λ (i : List Bool). Settles (bits None) n i (map (bit_of j) good.state) (λ x. bit_of j (at values 0 x))) (good.inputs_are j p e)
+      (words_as_bits j (let l = some_below patterns j p e in let few = good.few in omega arith) None n good.inputs good.state (at values 0) (good.settles 0)));
+}

@@ -19,9 +19,10 @@ use crate::overlap::Overlap;
 use crate::packing::{Part, packed, used_bits};
 use crate::passes::Pass;
 use crate::shown::Shown;
+use crate::words::settled_words;
 use cubes::Pattern;
 use events::{Events, Words};
-use netlist::{Core, Fault, Netlist, NoMemory};
+use netlist::{Core, Fault, Netlist};
 use observed_points::{Points, point_at};
 use regions::Four;
 use std::alloc::{AllocError, Global};
@@ -38,10 +39,7 @@ pub fn good_events<'a>(
     ensures good { IfOk result (λ e. AreGoodFor core.now patterns.now e.values) }
     ensures trail { IfOk result (λ e. e.trail ≡ []) }
 {
-    let netlist = core.netlist();
-    let inputs = packed(alloc, Part::Inputs, patterns, netlist.inputs().len())?;
-    let state = packed(alloc, Part::Cells, patterns, netlist.cells().len())?;
-    let values = core.settle(alloc, &Words { fault: None }, &inputs, &state)?;
+    let values = settled_words(alloc, core, patterns)?;
     let events = Events::new(alloc, core, values, 0)?;
     Ok(events)
 }
@@ -164,64 +162,25 @@ pub(crate) fn find_hits<'a>(
     ensures wide { IfSome wide.new (IsBeside events.old.netlist) }
 {
     groups.gather(events.core(), events.values(), faults)?;
+    let linked = &groups.linked;
+    let telling = &mut groups.telling;
     let pass = Pass {
         points,
         patterns,
         used: used_bits(patterns.len()),
         faults,
-        reaches: &groups.reaches,
-        links: &groups.links,
-        heads: &groups.heads,
-        latest: &groups.latest,
+        reaches: &linked.reaches,
+        links: &linked.links,
+        heads: &linked.heads,
+        latest: &linked.latest,
     };
     hits_of_pass(
         alloc,
         events,
         wide,
         &pass,
-        &mut groups.overlap,
-        &mut groups.shown,
-        &mut groups.told,
+        &mut telling.overlap,
+        &mut telling.shown,
+        &mut telling.told,
     )
-}
-
-fn hits_of_batch(
-    alloc: Global,
-    core: &Core,
-    patterns: &[Pattern],
-    faults: &[(u32, Fault)],
-) -> Result<Vec<Hit>, AllocError>
-    requires few { length patterns.now ≤ 64 }
-    requires wide { All (HasWidthsOf core.now) patterns.now }
-    requires lines { All (λ (g : ℕ × FaultOf). IsLineOf core.now g.1.line) faults.now }
-    ensures { IfOk result (λ v. AreHits core.now patterns.now faults.now v.items) }
-{
-    let points = Points::of(alloc, core)?;
-    let mut groups = Groups::new(alloc, core.netlist())?;
-    let mut events = good_events(alloc, core, patterns)?;
-    let mut wide = None;
-    find_hits(
-        alloc,
-        &mut events,
-        &mut wide,
-        &points,
-        &mut groups,
-        patterns,
-        faults,
-    )
-}
-
-/// For each given fault that some pattern detects, in the order given, the last such pattern and its first point.
-pub fn hits(
-    alloc: Global,
-    core: &Core,
-    patterns: &[Pattern],
-    faults: &[(u32, Fault)],
-) -> Result<Vec<Hit>, NoMemory>
-    requires few { length patterns.now ≤ 64 }
-    requires wide { All (HasWidthsOf core.now) patterns.now }
-    requires lines { All (λ (g : ℕ × FaultOf). IsLineOf core.now g.1.line) faults.now }
-    ensures { IfOk result (λ v. AreHits core.now patterns.now faults.now v.items) }
-{
-    hits_of_batch(alloc, core, patterns, faults).map_err(|_| NoMemory)
 }

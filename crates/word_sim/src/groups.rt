@@ -20,23 +20,35 @@ use std::alloc::{AllocError, Global};
 /// What was found of a fault, where it is known.
 pub(crate) type Told = Option<Option<(u32, usize)>>;
 
-/// What is kept of the faults of a batch. What it holds before a batch doesn't matter.
+/// The faults of a batch by their heads.
 #[derive(Drop)]
-pub(crate) struct Groups {
-    pub paths: Paths,
+pub(crate) struct Linked {
     /// Of each fault of the batch.
     pub reaches: Vec<Reach>,
     /// The next fault with the same head as each, or a number that isn't above its own.
     pub links: Vec<u32>,
-    /// Of each fault of the batch.
-    pub told: Vec<Told>,
-    /// The changes from a head that points read.
-    pub shown: Vec<Shown>,
     /// For each signal the first fault that may reach it as a head, of those that are linked.
     pub latest: Vec<u32>,
     /// The signals that are heads of faults, each once.
     pub heads: Vec<SignalId>,
+}
+
+/// What is told of them, and what telling takes.
+#[derive(Drop)]
+pub(crate) struct Telling {
+    /// Of each fault of the batch.
+    pub told: Vec<Told>,
+    /// The changes from a head that points read.
+    pub shown: Vec<Shown>,
     pub overlap: Overlap,
+}
+
+/// What is kept of the faults of a batch. What it holds before a batch doesn't matter.
+#[derive(Drop)]
+pub(crate) struct Groups {
+    pub paths: Paths,
+    pub linked: Linked,
+    pub telling: Telling,
 }
 
 fn reach_all(
@@ -94,22 +106,45 @@ fn link(
     Ok(())
 }
 
+impl Linked {
+    /// Room for so many signals.
+    fn new(alloc: Global, count: usize) -> Result<Linked, AllocError> {
+        let latest = vec![in alloc; 0u32; count]?;
+        let heads = Vec::with_capacity(alloc, count)?;
+        Ok(Linked {
+            reaches: Vec::new(alloc),
+            links: Vec::new(alloc),
+            latest,
+            heads,
+        })
+    }
+}
+
+impl Telling {
+    /// Room for so many signals.
+    fn new(alloc: Global, count: usize) -> Result<Telling, AllocError> {
+        let overlap = Overlap::new(alloc, count)?;
+        Ok(Telling {
+            told: Vec::new(alloc),
+            shown: Vec::new(alloc),
+            overlap,
+        })
+    }
+}
+
 impl Groups {
     /// Room for the signals of a netlist.
     pub(crate) fn new(alloc: Global, netlist: &Netlist) -> Result<Groups, AllocError>
         ensures { IfOk result (λ g. HasRoom netlist.now g.paths.heads.items g.paths.opens.items) }
     {
         let paths = Paths::new(alloc, netlist)?;
-        let latest = vec![in alloc; 0u32; paths.heads.len()]?;
+        let count = paths.heads.len();
+        let linked = Linked::new(alloc, count)?;
+        let telling = Telling::new(alloc, count)?;
         Ok(Groups {
             paths,
-            reaches: Vec::new(alloc),
-            links: Vec::new(alloc),
-            told: Vec::new(alloc),
-            shown: Vec::new(alloc),
-            heads: Vec::with_capacity(alloc, latest.len())?,
-            overlap: Overlap::new(alloc, latest.len())?,
-            latest,
+            linked,
+            telling,
         })
     }
 
@@ -123,19 +158,26 @@ impl Groups {
         requires lines { All (λ (g : ℕ × FaultOf). IsLineOf core.now g.1.line) faults.now }
         requires size { length values.now ≡ length (signals core.now) }
         requires room { HasRoom core.now self.old.paths.heads.items self.old.paths.opens.items }
-        ensures reaches { OnOk result (AreReaches core.now values.now faults.now self.new.reaches.items) }
-        ensures told { OnOk result (self.new.told.items ≡ replicate (length faults.now) None) }
+        ensures reaches { OnOk result (AreReaches core.now values.now faults.now self.new.linked.reaches.items) }
+        ensures told { OnOk result (self.new.telling.told.items ≡ replicate (length faults.now) None) }
         ensures room { HasRoom core.now self.new.paths.heads.items self.new.paths.opens.items }
     {
         self.paths.open(core, values);
         let netlist = core.netlist();
-        reach_all(netlist, &self.paths, values, faults, &mut self.reaches)?;
-        begin(faults.len(), &mut self.links, &mut self.told)?;
+        reach_all(
+            netlist,
+            &self.paths,
+            values,
+            faults,
+            &mut self.linked.reaches,
+        )?;
+        begin(faults.len(), &mut self.linked.links, &mut self.telling.told)?;
+        let linked = &mut self.linked;
         link(
-            &self.reaches,
-            &mut self.links,
-            &mut self.latest,
-            &mut self.heads,
+            &linked.reaches,
+            &mut linked.links,
+            &mut linked.latest,
+            &mut linked.heads,
         )
     }
 }

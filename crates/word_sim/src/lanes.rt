@@ -3,7 +3,7 @@
 //! One by one, a signal that four heads change is evaluated four times; side by side it is once, but an evaluation, a change and its undoing move four
 //! times the words. So it pays where four neighbours in the list of heads change much in common. Which it is depends on the netlist: a sample of the
 //! heads is turned over one by one first, and what they change in common decides (`overlap`). What isn't told here is told one by one later.
-ghost use Rattle.std.specs.Prelude.{◌≡◌, ◌≢◌, ◌<◌, [], length, map, IfOk, IfSome, IsTrue};
+ghost use Rattle.std.specs.Prelude.{◌≡◌, ◌≢◌, ◌<◌, [], length, map, None, IfOk, IfSome, IsTrue};
 ghost use Rattle.std.specs.List.{All, AllPairs};
 ghost use Rattle.statement.specs.Netlists.{signals};
 ghost use Rattle.regions.specs.Side.{lane_of, spread, turned_in, turned_signals};
@@ -184,7 +184,7 @@ fn tell_fours(
     requires beside { IsSpread events.now.netlist events.now.values wide.old }
     requires told { AreTold events.now.netlist pass.now told.old.items }
     ensures told { AreTold events.now.netlist pass.now told.new.items }
-    ensures same { wide.new ≡ wide.old }
+    ensures beside { IsBeside events.now.netlist wide.new }
 {
     let none = Head {
         turned: TurnedWords {
@@ -251,6 +251,23 @@ fn kept_or_made<'a>(
     }
 }
 
+/// The evaluator that was kept, or one that is made now, with each word in each lane.
+fn side_of<'a>(
+    alloc: Global,
+    events: &Events<'a, u64>,
+    wide: &mut Option<Events<'a, Four>>,
+) -> Result<Events<'a, Four>, AllocError>
+    requires size { length events.now.values ≡ length (signals events.now.netlist) }
+    requires wide { IfSome wide.old (IsBeside events.now.netlist) }
+    ensures side { IfOk result (IsSpread events.now.netlist events.now.values) }
+    ensures wide { wide.new ≡ None }
+{
+    let values = events.values();
+    let mut side = kept_or_made(alloc, events.core(), values.len(), wide.take())?;
+    spread_words(&mut side, values);
+    Ok(side)
+}
+
 /// Tells the faults of heads of which nothing is told, four by four.
 fn tell_others<'a>(
     alloc: Global,
@@ -266,9 +283,7 @@ fn tell_others<'a>(
     ensures told { AreTold events.now.netlist pass.now told.new.items }
     ensures wide { IfSome wide.new (IsBeside events.now.netlist) }
 {
-    let values = events.values();
-    let mut side = kept_or_made(alloc, events.core(), values.len(), wide.take())?;
-    spread_words(&mut side, values);
+    let mut side = side_of(alloc, events, wide)?;
     tell_fours(events, &mut side, pass, shown, told);
     *wide = Some(side);
     Ok(())

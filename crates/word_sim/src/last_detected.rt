@@ -143,7 +143,34 @@ fn none_told(alloc: Global, count: usize) -> Result<Vec<Option<(u32, Point)>>, A
     Ok(told)
 }
 
-/// Where each fault is last detected, 64 patterns after another from the last ones on.
+/// Tells where each fault is last detected, 64 patterns after another from the last ones on.
+fn tell_parts(
+    alloc: Global,
+    simulator: &mut Simulator<'_>,
+    patterns: &[Pattern],
+    faults: &[Fault],
+    told: &mut Vec<Option<(u32, Point)>>,
+) -> Result<(), AllocError>
+    requires wide { All (HasWidthsOf simulator.old) patterns.now }
+    requires lines { All (λ (f : FaultOf). IsLineOf simulator.old f.line) faults.now }
+    requires count { length patterns.now + 64 ≤ 2 ^ 32 }
+    requires places { length faults.now ≤ 2 ^ 32 }
+    requires nothing { told.old.items ≡ replicate (length faults.now) None }
+    ensures { OnOk result (AllZip (LastDetected simulator.old patterns.now) faults.now told.new.items) }
+{
+    let mut rest = Vec::new(alloc);
+    let mut end = patterns.len();
+    while end > 0 {
+        let start = if end > 64 { end - 64 } else { 0 };
+        tell_part(
+            alloc, simulator, patterns, start, end, faults, &mut rest, told,
+        )?;
+        end = start;
+    }
+    Ok(())
+}
+
+/// Where each fault is last detected.
 fn find_last(
     alloc: Global,
     core: &Core,
@@ -158,25 +185,14 @@ fn find_last(
     if faults.len() > MOST_FAULTS {
         return Err(AllocError);
     }
-    let mut simulator = Simulator::made(alloc, core)?;
-    let mut rest = Vec::new(alloc);
     let mut told = none_told(alloc, faults.len())?;
-    let mut end = patterns.len();
-    while end > 0 {
-        let start = if end > 64 { end - 64 } else { 0 };
-        tell_part(
-            alloc,
-            &mut simulator,
-            patterns,
-            start,
-            end,
-            faults,
-            &mut rest,
-            &mut told,
-        )?;
-        end = start;
+    let mut simulator = Simulator::made(alloc, core)?;
+    let done = tell_parts(alloc, &mut simulator, patterns, faults, &mut told);
+    drop(simulator);
+    match done {
+        Ok(()) => Ok(told),
+        Err(failed) => Err(failed),
     }
-    Ok(told)
 }
 
 /// For each fault the last pattern that detects it and the first point at which it does, over any number of patterns.

@@ -26,9 +26,9 @@ mod words;
 
 pub use batches::{Batch, Hit};
 pub use detecting::last_marked;
-pub use fault_hits::{good_events, hits, next_patterns};
+pub use fault_hits::{good_events, next_patterns};
 pub use last_detected::last_tells;
 pub use leaving_out::{told_of_all, unmarked};
 pub use packing::used_bits;
-pub use simulator::Simulator;
+pub use simulator::{Simulator, hits};
 pub use words::{ResponseWords, Words, good64, response64};

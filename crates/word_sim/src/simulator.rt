@@ -102,3 +102,36 @@ impl<'a> Simulator<'a> {
             .map_err(|_| NoMemory)
     }
 }
+
+/// The hits of one batch, by a simulator that is made for it.
+fn hits_of_batch(
+    alloc: Global,
+    core: &Core,
+    patterns: &[Pattern],
+    faults: &[(u32, Fault)],
+) -> Result<Vec<Hit>, AllocError>
+    requires few { length patterns.now ≤ 64 }
+    requires wide { All (HasWidthsOf core.now) patterns.now }
+    requires lines { All (λ (g : ℕ × FaultOf). IsLineOf core.now g.1.line) faults.now }
+    ensures { IfOk result (λ v. AreHits core.now patterns.now faults.now v.items) }
+{
+    let mut simulator = Simulator::made(alloc, core)?;
+    let hits = simulator.batch_hits(alloc, patterns, faults);
+    drop(simulator);
+    hits
+}
+
+/// For each given fault that some pattern detects, in the order given, the last such pattern and its first point.
+pub fn hits(
+    alloc: Global,
+    core: &Core,
+    patterns: &[Pattern],
+    faults: &[(u32, Fault)],
+) -> Result<Vec<Hit>, NoMemory>
+    requires few { length patterns.now ≤ 64 }
+    requires wide { All (HasWidthsOf core.now) patterns.now }
+    requires lines { All (λ (g : ℕ × FaultOf). IsLineOf core.now g.1.line) faults.now }
+    ensures { IfOk result (λ v. AreHits core.now patterns.now faults.now v.items) }
+{
+    hits_of_batch(alloc, core, patterns, faults).map_err(|_| NoMemory)
+}

@@ -1,6 +1,8 @@
 //! The words of up to 64 patterns, a bit of each for every pattern.
 ghost use Rattle.std.specs.Prelude.{◌≡◌, ◌≤◌, ◌<◌, length, slice_index, IfOk};
 ghost use Rattle.std.specs.List.{All};
+ghost use Rattle.statement.specs.Netlists.{signals};
+ghost use Rattle.word_sim.specs.inner.Packed.{AreGoodFor};
 ghost use Rattle.word_sim.specs.Words.{AreGoodWords, AreResponseWords, HasWidthsOf};
 
 use crate::packing::{Part, packed};
@@ -34,10 +36,16 @@ impl Words {
 }
 
 /// The words that settle without a fault.
-fn settled_words(alloc: Global, core: &Core, patterns: &[Pattern]) -> Result<Vec<u64>, AllocError>
+pub(crate) fn settled_words(
+    alloc: Global,
+    core: &Core,
+    patterns: &[Pattern],
+) -> Result<Vec<u64>, AllocError>
     requires few { length patterns.now ≤ 64 }
     requires wide { All (HasWidthsOf core.now) patterns.now }
-    ensures { IfOk result (λ v. AreGoodWords core.now patterns.now v.items) }
+    ensures good { IfOk result (λ v. AreGoodFor core.now patterns.now v.items) }
+    ensures words { IfOk result (λ v. AreGoodWords core.now patterns.now v.items) }
+    ensures size { IfOk result (λ v. length v.items ≡ length (signals core.now)) }
 {
     let netlist = core.netlist();
     let inputs = packed(alloc, Part::Inputs, patterns, netlist.inputs().len())?;

@@ -4,7 +4,7 @@ use Rattle.std.specs.Prelude.{Result, Ok, Err}
 use Rattle.std.specs.Result.{OnErr, OnOk}
 use Rattle.std.specs.List.{All}
 use Rattle.std.proofs.lemmas.List.Elements.{All-head, All-push, All-tail}
-use Rattle.cubes.specs.Cubes.{Cube, IsCubeOf}
+use Rattle.cubes.specs.Cubes.{IsCubeOf}
 use Rattle.list_core.specs.Subjects.{Subject}
 use Rattle.worker.specs.declared.hands.Test.{Test}
 use Rattle.worker.specs.inner.Tests.{AreTestsOf}

@@ -1,7 +1,7 @@
 -- Cubes, patterns and hits of a batch.
-use Rattle.std.proofs.Common.{zero, suc, ◌≡◌, ◌≢◌, true≢false, inl, inr, ℕ, ◌<◌, List, [], ◌∷◌, get_or, refl, sym, ◌∙◌, ap, subst, arith, Bor}
+use Rattle.std.proofs.Common.{zero, suc, ◌≡◌, ◌≢◌, true≢false, inl, inr, ℕ, ◌<◌, List, [], ◌∷◌, get_or, refl, sym, ◌∙◌, subst, arith, Bor}
 use Rattle.std.specs.List.{All, AllPairs}
-use Rattle.std.specs.Prelude.{true, false, Bool, Result, Ok, Err, Option, Some, None, IfNone, IsTrue}
+use Rattle.std.specs.Prelude.{true, false, Bool, Result, Ok, Err, Option, Some, None, IfNone}
 use Rattle.std.specs.Option.{option_copied}
 use Rattle.std.specs.Result.{OnOk}
 use Rattle.std.proofs.lemmas.List.Elements.{All-cons, All-head, All-tail}
@@ -26,11 +26,7 @@ use Rattle.list_core.specs.Subjects.{Subject, RepresentsIn, HaveLines}
 use Rattle.list_core.specs.Batches.{IsTrueHit, IsTrueBatch}
 use Rattle.list_core.specs.declared.goals.Goal.{Goal}
 use Rattle.list_core.specs.declared.verdicts.Verdict.{Verdict}
-use Rattle.shared_list.specs.Tally.{Tally}
 use Rattle.worker.specs.Working.{IsDone, MaySearch, NoneOpen}
-use Rattle.worker.specs.declared.outcomes.Outcome.{Outcome}
-use Rattle.worker.specs.inner.Outcomes.{IsOutcome}
-use Rattle.shared_list.specs.Outcomes.{IsNone}
 
 -- cubes of one netlist have the same widths
 pub same_widths : (n : Netlist) (holds : Holds) (cubes : List Cube) → All (IsCubeOf n holds) cubes → AllPairs HaveSameWidths cubes
@@ -127,22 +123,17 @@ line_there j n class f e lines rep =
     let Q : Netlist → Type 0 = λ m. IsLineOf m f.line in
     subst Q (sym e) (subst P (get_or_from_slice_get faults class f f rep) (lines class f (slice_get_within faults class f rep)))
 
-evidence_there : (j : Subject) (f g : Fault) (n : Netlist) (holds : Holds) (limit : ℕ) (found : Found) → f ≡ g → n ≡ j.netlist → holds ≡ j.holds → limit ≡ j.limit
+pub evidence_there : (j : Subject) (f g : Fault) (n : Netlist) (holds : Holds) (limit : ℕ) (refutes : Bool) (found : Found) → f ≡ g → limit ≡ j.limit → MaySearch j n holds refutes
     → HasEvidence f n holds limit found → HasEvidence g j.netlist j.holds j.limit found
-evidence_there j f g n holds limit found ef en eh el h =
+evidence_there j f g n holds limit refutes found ef el may h =
     let P : ℕ → Type 0 = λ k. HasEvidence g j.netlist j.holds k found in
     let Q : Holds → Type 0 = λ k. HasEvidence g j.netlist k limit found in
     let R : Netlist → Type 0 = λ m. HasEvidence g m holds limit found in
     let S : Fault → Type 0 = λ x. HasEvidence x n holds limit found in
-    subst P el (subst Q eh (subst R en (subst S ef h)))
+    subst P el (subst Q may.3 (subst R may.0 (subst S ef h)))
 
-pub outcome_there : (j : Subject) (f g : Fault) (n : Netlist) (holds : Holds) (limit : ℕ) (refutes : Bool) (found : Found) (outcome : Outcome)
-    → f ≡ g → limit ≡ j.limit → MaySearch j n holds refutes → HasEvidence f n holds limit found → MayAnswer refutes found
-    → ((k : Subject) (h : Fault) → HasEvidence h k.netlist k.holds k.limit found → MayAnswer k.refutes found → IsOutcome k h outcome)
-    → IsOutcome j g outcome
-outcome_there j f g n holds limit refutes found outcome ef el may evidence kind is =
-    let P : Bool → Type 0 = λ b. MayAnswer b found in
-    is j g (evidence_there j f g n holds limit found ef may.0 may.3 el evidence) (subst P may.5 kind)
+pub kind_there : (j : Subject) (n : Netlist) (holds : Holds) (refutes : Bool) (found : Found) → MaySearch j n holds refutes → MayAnswer refutes found → MayAnswer j.refutes found
+kind_there j n holds refutes found may kind = let P : Bool → Type 0 = λ b. MayAnswer b found in subst P may.5 kind
 
 -- ---- one pattern with one hit
 
@@ -167,11 +158,6 @@ single_true j f c p o class rep test agrees is =
       once = λ i k d less lt. absurd (omega (arith, less, lt));
     }
 
--- a share that is told that there is no class has ended
-pub ended_by_none : (classes : ℕ) (before after : Tally) → IsNone classes before after → after.ended ≡ true
-ended_by_none classes before after (inl had) = ap (λ (t : Tally). t.ended) had.same ∙ had.ended
-ended_by_none classes before after (inr last) = ap (λ (t : Tally). t.ended) last.after_is
-
 pub whatever_comes : {A E P : Type 0} (r : Result A E) → P → OnOk r P
 whatever_comes (Ok x) p = p
 whatever_comes (Err e) p = tt
@@ -187,15 +173,15 @@ pub if_none_given : {T P Q : Type 0} (o : Option (Bor T)) → (P → Q) → IfNo
 if_none_given None f p = f p
 if_none_given (Some x) f p = tt
 
+pub if_none_still : {T P Q : Type 0} (o : Option T) → (P → Q) → IfNone o P → IfNone o Q
+if_none_still None f p = f p
+if_none_still (Some x) f p = tt
+
 pub whether_none : {T P : Type 0} (o : Option T) → P → IfNone o P
 whether_none None p = p
 whether_none (Some x) p = tt
 
--- what is told only where there is a goal
-pub told_of : {T : Type 0} (P : Type 0) (o : Option T) (b : Bool) → IfNone o (b ≡ false) → IfNone o (IsTrue b → P)
-told_of P None b none = λ is. absurd (true≢false (sym is ∙ none))
-told_of P (Some x) b none = tt
-
-pub told_at : {T : Type 0} (P : Type 0) (o : Option T) (b : Bool) → IfNone o (IsTrue b → P) → b ≡ true → IfNone o P
-told_at P None b told is = told is
-told_at P (Some x) b told is = tt
+-- where there is no goal it isn't said that enough is detected
+pub not_enough : {T : Type 0} (P : Type 0) (o : Option T) (b : Bool) → IfNone o (b ≡ false) → b ≡ true → IfNone o P
+not_enough P None b none is = absurd (true≢false (sym is ∙ none))
+not_enough P (Some x) b none is = tt

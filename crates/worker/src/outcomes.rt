@@ -1,11 +1,10 @@
 //! What becomes of what a search found.
-ghost use Rattle.statement.specs.declared.lines.Fault.{Fault};
 ghost use Rattle.evidence.specs.Answers.{HasEvidence, MayAnswer};
-ghost use Rattle.list_core.specs.Subjects.{Subject};
 ghost use Rattle.worker.specs.inner.Outcomes.{IsOutcome};
 
 use cubes::Cube;
 use evidence::{Evidence, Found};
+use list_core::{About, Claim};
 use netlist::Point;
 use outside::Stage;
 
@@ -16,9 +15,12 @@ pub(crate) enum Outcome {
     Settles(Evidence, Stage),
 }
 
-/// Whatever the search was about, its answer is evidence of just that.
-pub(crate) fn outcome_of(found: Found) -> Outcome
-    ensures { (j : Subject) (f : Fault) → HasEvidence f j.netlist j.holds j.limit found → MayAnswer j.refutes found → IsOutcome j f result }
+/// What becomes of what a search for a claim found.
+#[tactic(auto, using(crate::proofs::WorkLemmas::closed_settles, crate::proofs::WorkLemmas::refuted_settles, crate::proofs::WorkLemmas::partial_settles))]
+pub(crate) fn outcome_of<J: About>(claim: &Claim<J>, found: Found) -> Outcome
+    requires evidence { HasEvidence claim.now.fault J.subject.netlist J.subject.holds J.subject.limit found }
+    requires kind { MayAnswer J.subject.refutes found }
+    ensures { IsOutcome J.subject claim.now.fault result }
 {
     match found {
         Found::Test(cube, point) => Outcome::Test(cube, point),

@@ -2,18 +2,18 @@
 ghost use Rattle.std.specs.Prelude.{[], ◌∷◌, ◌≡◌, ◌+◌, ◌<◌, ◌≤◌, ◌^◌, length, IsTrue, IfOk, OnOk};
 ghost use Rattle.std.specs.Option.{option_copied};
 ghost use Rattle.redundancy_cert.specs.TestCubes.{IsTestCube};
+ghost use Rattle.evidence.specs.Answers.{HasEvidence, MayAnswer};
 ghost use Rattle.list_core.specs.Subjects.{class_count};
 ghost use Rattle.list_core.specs.Batches.{IsTrueBatch};
 ghost use Rattle.list_core.specs.States.{IsTrueList, MaySettle};
 ghost use Rattle.worker.specs.Working.{IsDone, NoneOpen};
 ghost use Rattle.worker.specs.inner.Closing.{IsClosed};
-ghost use Rattle.worker.specs.inner.Outcomes.{IsOutcome};
 
 use crate::adding::alone;
 use crate::errands::Brief;
 use crate::outcomes::{Outcome, outcome_of};
 use cubes::{Cube, fill};
-use evidence::{Engine, Evidence};
+use evidence::{Engine, Evidence, Found};
 use list_core::{About, Claim, FaultList, Goal};
 use netlist::{NoMemory, Point};
 use outside::Gate;
@@ -48,6 +48,7 @@ fn single<J: About>(
 }
 
 /// Publishes the cube, filled, with its hit of the claim's class.
+#[tactic(auto, using(crate::proofs::ClosingLemmas::single_closes))]
 fn publish_single<J: About>(
     alloc: Global,
     list: &mut FaultList<J>,
@@ -69,6 +70,7 @@ fn publish_single<J: About>(
 }
 
 /// Hands the claim back with its evidence.
+#[tactic(auto, using(crate::proofs::ClosingLemmas::settling_closes))]
 fn settle_one<J: About>(list: &mut FaultList<J>, claim: Claim<J>, evidence: Evidence)
     requires { MaySettle J.subject claim.fault evidence }
     ensures { IsClosed claim.class 0 list.old list.new }
@@ -83,14 +85,15 @@ fn close<J: About>(
     list: &mut FaultList<J>,
     worker: u32,
     claim: Claim<J>,
-    outcome: Outcome,
+    found: Found,
     rng: &mut Lcg64Xsh32,
 ) -> Result<(), NoMemory>
-    requires outcome { IsOutcome J.subject claim.fault outcome }
+    requires evidence { HasEvidence claim.fault J.subject.netlist J.subject.holds J.subject.limit found }
+    requires kind { MayAnswer J.subject.refutes found }
     requires few { length list.old.patterns + 1 < 2 ^ 32 }
     ensures { OnOk result (IsClosed claim.class 0 list.old list.new) }
 {
-    match outcome {
+    match outcome_of(&claim, found) {
         Outcome::Test(cube, point) => {
             publish_single(alloc, list, worker, &claim, &cube, point, rng)
         }
@@ -102,23 +105,25 @@ fn close<J: About>(
 }
 
 /// What a search for a claim answers.
-fn outcome_for<J: About, E: Engine, G: Gate, R>(
+#[tactic(auto, using(crate::proofs::WorkLemmas::line_there, crate::proofs::WorkLemmas::evidence_there, crate::proofs::WorkLemmas::kind_there))]
+fn found_for<J: About, E: Engine, G: Gate, R>(
     brief: &Brief<'_, J, E, G, R>,
     claim: &Claim<J>,
-) -> Result<Outcome, NoMemory>
-    ensures { IfOk result (IsOutcome J.subject claim.now.fault) }
+) -> Result<Found, NoMemory>
+    ensures evidence { IfOk result (HasEvidence claim.now.fault J.subject.netlist J.subject.holds J.subject.limit) }
+    ensures kind { IfOk result (MayAnswer J.subject.refutes) }
 {
-    let found = brief.engine.search(
+    brief.engine.search(
         brief.alloc,
         brief.core,
         claim.fault(),
         claim.limit(),
         brief.holds,
-    )?;
-    Ok(outcome_of(found))
+    )
 }
 
 /// Works the class, where it is Open.
+#[tactic(auto, using(crate::proofs::ClosingLemmas::claimed_closes, crate::proofs::ClosingLemmas::none_to_claim))]
 fn work_one<J: About, E: Engine, G: Gate, R>(
     brief: &Brief<'_, J, E, G, R>,
     list: &mut FaultList<J>,
@@ -134,11 +139,12 @@ fn work_one<J: About, E: Engine, G: Gate, R>(
     let Some(claim) = list.claim(worker, class) else {
         return Ok(());
     };
-    let outcome = outcome_for(brief, &claim)?;
-    close(brief.alloc, list, worker, claim, outcome, rng)
+    let found = found_for(brief, &claim)?;
+    close(brief.alloc, list, worker, claim, found, rng)
 }
 
 /// Works every class that is still Open.
+#[tactic(auto, using(crate::proofs::ClosingLemmas::none_open_yet))]
 fn work_all<J: About, E: Engine, G: Gate, R>(
     brief: &Brief<'_, J, E, G, R>,
     list: FaultList<J>,
@@ -172,6 +178,7 @@ fn is_enough<J: About>(list: &FaultList<J>, goal: Option<&Goal>) -> bool
 }
 
 /// Works every class that is still Open, unless enough is detected.
+#[tactic(auto, using(crate::proofs::WorkLemmas::done_with_none))]
 pub(crate) fn work_rest<J: About, E: Engine, G: Gate, R>(
     brief: &Brief<'_, J, E, G, R>,
     list: FaultList<J>,

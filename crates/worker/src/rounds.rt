@@ -11,23 +11,20 @@
 ghost use Rattle.std.specs.Prelude.{◌≡◌, ◌+◌, ◌<◌, ◌≤◌, IfOk, length, vec_len};
 ghost use Rattle.std.specs.List.{All};
 ghost use Rattle.cubes.specs.Cubes.{IsPatternOf};
-ghost use Rattle.shared_list.specs.Tally.{Tally};
+ghost use Rattle.shared_list.specs.Tally.{idle_from};
 ghost use Rattle.worker.specs.inner.Tests.{AreTestsOf};
 
-use crate::adding::add;
 use crate::errands::Brief;
 use crate::gathering::{cubes_of, gather, keep_unhit, take_first};
 use crate::hands::{Hand, Test};
 use crate::hunting::hunt;
-use crate::publishing::{batch_beside, patterns_of, publish_batch};
-use crate::simulators::Simulators;
+use crate::publishing::{Bench, batch_beside, patterns_of, publish_batch};
 use crate::working::{FULL, is_enough};
 use cubes::Pattern;
 use evidence::Engine;
 use list_core::About;
 use netlist::{Core, NoMemory};
 use outside::Gate;
-use rand_pcg::Lcg64Xsh32;
 use shared_list::{Share, Shared};
 use std::alloc::Global;
 use std::sync::Wait;
@@ -157,25 +154,23 @@ fn publish_word<
     R: Threads + Wait + Sync,
 >(
     brief: &Brief<'_, J, E, G, R>,
-    simulators: &mut Simulators<'_>,
+    bench: &mut Bench<'_, J>,
     shared: &Shared<J, T, S, P, U>,
     share: &mut Share<T, S, P, U>,
     word: Vec<Pattern>,
     tests: &mut Vec<Test>,
 ) -> Result<u64, NoMemory>
-    requires simulators { simulators.old ≡ J.subject.netlist }
     requires table { share.old.table ≡ shared.now.word.shared.table_id }
     requires few { vec_len word ≤ 64 }
     requires unspent { vec_len word ≤ share.old.unspent }
     requires wide { All (IsPatternOf J.subject.netlist J.subject.holds) word.items }
     requires cubes { AreTestsOf J.subject tests.old.items }
-    ensures simulators { simulators.new ≡ simulators.old }
     ensures table { share.new.table ≡ share.old.table }
     ensures unspent { share.old.unspent ≤ share.new.unspent + vec_len word }
     ensures fewer { vec_len tests.new ≤ vec_len tests.old }
     ensures cubes { AreTestsOf J.subject tests.new.items }
 {
-    let (batch, undetected) = batch_beside(brief, shared, simulators, word)?;
+    let (batch, undetected) = batch_beside(brief, shared, bench, word)?;
     keep_unhit::<J>(tests, batch.hits());
     publish_batch(brief, shared, share, batch, undetected)?;
     Ok(undetected)
@@ -193,18 +188,16 @@ fn publish_words<
     R: Threads + Wait + Sync,
 >(
     brief: &Brief<'_, J, E, G, R>,
-    simulators: &mut Simulators<'_>,
+    bench: &mut Bench<'_, J>,
     shared: &Shared<J, T, S, P, U>,
     share: &mut Share<T, S, P, U>,
     patterns: Vec<Pattern>,
     tests: &mut Vec<Test>,
 ) -> Result<u64, NoMemory>
-    requires simulators { simulators.old ≡ J.subject.netlist }
     requires table { share.old.table ≡ shared.now.word.shared.table_id }
     requires unspent { vec_len patterns ≤ share.old.unspent }
     requires wide { All (IsPatternOf J.subject.netlist J.subject.holds) patterns.items }
     requires cubes { AreTestsOf J.subject tests.old.items }
-    ensures simulators { simulators.new ≡ simulators.old }
     ensures table { share.new.table ≡ share.old.table }
     ensures unspent { share.old.unspent ≤ share.new.unspent + vec_len patterns }
     ensures fewer { vec_len tests.new ≤ vec_len tests.old }
@@ -214,7 +207,7 @@ fn publish_words<
     let mut undetected = 0;
     while !left.is_empty() {
         let later = left.split_off(FULL.min(left.len()))?;
-        undetected = publish_word(brief, simulators, shared, share, left, tests)?;
+        undetected = publish_word(brief, bench, shared, share, left, tests)?;
         left = later;
     }
     Ok(undetected)
@@ -223,9 +216,9 @@ fn publish_words<
 /// The first tests, merged and filled. They are taken out.
 fn first_patterns<J: About>(
     alloc: Global,
+    bench: &mut Bench<'_, J>,
     tests: &mut Vec<Test>,
     most: usize,
-    rng: &mut Lcg64Xsh32,
 ) -> Result<Vec<Pattern>, NoMemory>
     requires { AreTestsOf J.subject tests.old.items }
     ensures fewer { vec_len tests.new ≤ vec_len tests.old }
@@ -235,7 +228,7 @@ fn first_patterns<J: About>(
 {
     let first = take_first::<J>(tests, most)?;
     let cubes = cubes_of::<J>(alloc, first)?;
-    patterns_of::<J>(alloc, &cubes, rng)
+    patterns_of::<J>(alloc, &cubes, &mut bench.rng)
 }
 
 /// Publishes the first tests, merged and filled. The tests of classes that they hit are let go.
@@ -250,19 +243,15 @@ fn publish_first<
     R: Threads + Wait + Sync,
 >(
     brief: &Brief<'_, J, E, G, R>,
-    simulators: &mut Simulators<'_>,
-    rng: &mut Lcg64Xsh32,
+    bench: &mut Bench<'_, J>,
     lead: &mut Hand<'_, J, T, S, P, U, E>,
     pace: Pace,
-) -> Result<Pace, NoMemory>
-    requires simulators { simulators.old ≡ J.subject.netlist }
-    ensures simulators { simulators.new ≡ simulators.old }
-{
-    let patterns = first_patterns::<J>(brief.alloc, &mut lead.tests, pace.size, rng)?;
+) -> Result<Pace, NoMemory> {
+    let patterns = first_patterns(brief.alloc, bench, &mut lead.tests, pace.size)?;
     let shared = lead.shared;
     let left = publish_words(
         brief,
-        simulators,
+        bench,
         shared,
         &mut lead.share,
         patterns,
@@ -287,15 +276,12 @@ fn take_step<
     R: Threads + Wait + Sync,
 >(
     brief: &Brief<'_, J, E, G, R>,
-    simulators: &mut Simulators<'_>,
-    rng: &mut Lcg64Xsh32,
+    bench: &mut Bench<'_, J>,
     crew: &mut [Hand<'_, J, T, S, P, U, E>],
     pace: Pace,
 ) -> Result<Pace, NoMemory>
-    requires simulators { simulators.old ≡ J.subject.netlist }
-    requires crew { 0 < length crew.old }
-    ensures simulators { simulators.new ≡ simulators.old }
-    ensures crew { length crew.new ≡ length crew.old }
+    requires { 0 < length crew.old }
+    ensures { length crew.new ≡ length crew.old }
 {
     let lead = &crew[0];
     let waiting = lead.tests.len();
@@ -308,7 +294,7 @@ fn take_step<
             ..pace
         })
     } else {
-        publish_first(brief, simulators, rng, &mut crew[0], pace)
+        publish_first(brief, bench, &mut crew[0], pace)
     }
 }
 
@@ -324,12 +310,10 @@ fn take_steps<
     R: Threads + Wait + Sync,
 >(
     brief: &Brief<'_, J, E, G, R>,
-    simulators: &mut Simulators<'_>,
-    rng: &mut Lcg64Xsh32,
+    bench: &mut Bench<'_, J>,
     crew: &mut [Hand<'_, J, T, S, P, U, E>],
 ) -> Result<(), NoMemory>
-    requires simulators { simulators.old ≡ J.subject.netlist }
-    requires crew { 0 < length crew.old }
+    requires { 0 < length crew.old }
     ensures { length crew.new ≡ length crew.old }
 {
     let lead = &crew[0];
@@ -344,49 +328,69 @@ fn take_steps<
         if pace.has_ended {
             break;
         }
-        pace = take_step(brief, simulators, rng, crew, pace)?;
+        pace = take_step(brief, bench, crew, pace)?;
     }
     Ok(())
 }
 
-/// The workers at the start, each with a share of the list.
+/// A worker at the start, with its share of the list.
+fn hand_of<'a, J: About, T: Ledger, S: Ledger, P: Ledger, U: Ledger, E: Engine>(
+    alloc: Global,
+    shared: &'a Shared<J, T, S, P, U>,
+    share: Share<T, S, P, U>,
+) -> Hand<'a, J, T, S, P, U, E>
+    requires table { share.table ≡ shared.now.word.shared.table_id }
+{
+    Hand {
+        shared,
+        share,
+        room: None,
+        claims: Vec::new(alloc),
+        tests: Vec::new(alloc),
+    }
+}
+
+/// The workers at the start, each with a share of the list. The shares are taken out from the last one on.
 fn crew_of<'a, J: About, T: Ledger, S: Ledger, P: Ledger, U: Ledger, E: Engine>(
     alloc: Global,
     shared: &'a Shared<J, T, S, P, U>,
-    shares: Vec<Share<T, S, P, U>>,
+    shares: &mut Vec<Share<T, S, P, U>>,
+    workers: u32,
 ) -> Result<Vec<Hand<'a, J, T, S, P, U, E>>, NoMemory>
-    requires { All (λ (t : Tally). t.table ≡ shared.now.word.shared.table_id) shares.items }
-    ensures { IfOk result (λ v. vec_len v ≡ vec_len shares) }
+    requires idle { shares.old.items ≡ idle_from shared.now.word.shared.table_id 0 workers }
+    requires len { vec_len shares.old ≡ workers }
+    ensures { IfOk result (λ v. vec_len v ≡ workers) }
 {
-    let mut crew = Vec::with_capacity(alloc, shares.len())?;
-    for share in shares {
-        let hand = Hand {
-            shared,
-            share,
-            room: None,
-            claims: Vec::new(alloc),
-            tests: Vec::new(alloc),
-        };
-        add(&mut crew, hand)?;
+    let mut crew = Vec::with_capacity(alloc, workers as usize)?;
+    while let Some(share) = shares.pop() {
+        crew.push_reserved(hand_of(alloc, shared, share));
     }
+    crew.reverse();
     Ok(crew)
 }
 
-/// The shares back.
+/// A worker's share.
+fn share_of<J: About, T: Ledger, S: Ledger, P: Ledger, U: Ledger, E: Engine>(
+    hand: Hand<'_, J, T, S, P, U, E>,
+) -> Share<T, S, P, U> {
+    hand.share
+}
+
+/// The shares back, in whatever order.
 fn shares_of<J: About, T: Ledger, S: Ledger, P: Ledger, U: Ledger, E: Engine>(
     alloc: Global,
-    crew: Vec<Hand<'_, J, T, S, P, U, E>>,
+    crew: &mut Vec<Hand<'_, J, T, S, P, U, E>>,
 ) -> Result<Vec<Share<T, S, P, U>>, NoMemory>
-    ensures { IfOk result (λ v. vec_len v ≡ vec_len crew.entry) }
+    ensures { IfOk result (λ v. vec_len v ≡ vec_len crew.old) }
 {
     let mut shares = Vec::with_capacity(alloc, crew.len())?;
-    for hand in crew {
-        add(&mut shares, hand.share)?;
+    while let Some(hand) = crew.pop() {
+        shares.push_reserved(share_of(hand));
     }
     Ok(shares)
 }
 
-/// The work of these workers.
+/// The work of these workers, and their shares back.
 fn work_crew<
     J: About + Send + Sync,
     T: Ledger + Send + Sync,
@@ -398,17 +402,17 @@ fn work_crew<
     R: Threads + Wait + Sync,
 >(
     brief: &Brief<'_, J, E, G, R>,
-    crew: &mut [Hand<'_, J, T, S, P, U, E>],
+    crew: &mut Vec<Hand<'_, J, T, S, P, U, E>>,
     workers: u32,
     seed: u64,
-) -> Result<(), NoMemory>
+) -> Result<Vec<Share<T, S, P, U>>, NoMemory>
     requires workers { 0 < workers }
-    requires crew { 0 < length crew.old }
-    ensures { length crew.new ≡ length crew.old }
+    requires crew { vec_len crew.old ≡ workers }
+    ensures { IfOk result (λ v. vec_len v ≡ workers) }
 {
-    let mut rng = Lcg64Xsh32::new(seed, 0);
-    let mut simulators = Simulators::new(brief.alloc, brief.core, workers)?;
-    take_steps(brief, &mut simulators, &mut rng, crew)
+    let mut bench = Bench::new(brief.alloc, brief.core, workers, seed)?;
+    take_steps(brief, &mut bench, crew)?;
+    shares_of(brief.alloc, crew)
 }
 
 /// The work of several workers, and their shares back.
@@ -429,10 +433,10 @@ pub(crate) fn work_rounds<
     seed: u64,
 ) -> Result<Vec<Share<T, S, P, U>>, NoMemory>
     requires workers { (0 < workers) × (vec_len shares ≡ workers) }
-    requires tables { All (λ (t : Tally). t.table ≡ shared.now.word.shared.table_id) shares.items }
+    requires idle { shares.items ≡ idle_from shared.now.word.shared.table_id 0 workers }
     ensures { IfOk result (λ v. vec_len v ≡ workers) }
 {
-    let mut crew = crew_of(brief.alloc, shared, shares)?;
-    work_crew(brief, &mut crew, workers, seed)?;
-    shares_of(brief.alloc, crew)
+    let mut shares = shares;
+    let mut crew = crew_of(brief.alloc, shared, &mut shares, workers)?;
+    work_crew(brief, &mut crew, workers, seed)
 }

@@ -68,14 +68,14 @@ fn parts_of<'a>(alloc: Global, core: &'a Core, workers: u32) -> Result<Vec<Part<
     ensures each { IfOk result (λ v. All (λ (p : Part). p.simulator ≡ core.now) v.items) }
     ensures len { IfOk result (λ v. length v.items ≡ workers) }
 {
-    let mut parts = Vec::new(alloc);
+    let mut parts = Vec::with_capacity(alloc, workers as usize)?;
     for _worker in 0..workers {
         let simulator = Simulator::new(alloc, core)?;
-        parts.push(Part {
+        parts.push_reserved(Part {
             simulator,
             own: Vec::new(alloc),
             hits: Err(NoMemory),
-        })?;
+        });
     }
     Ok(parts)
 }
@@ -101,8 +101,10 @@ fn own_hits(
     simulator.hits(alloc, patterns, own)
 }
 
+/// A part finds the hits of the faults that are dealt to it.
 fn simulate(
     alloc: Global,
+    core: &Core,
     deal: &Deal,
     number: usize,
     patterns: &[Pattern],
@@ -111,10 +113,10 @@ fn simulate(
 )
     requires short { length given.now ≤ 2 ^ 32 }
     requires few { length patterns.now ≤ 64 }
-    requires wide { All (HasWidthsOf part.old.simulator) patterns.now }
-    requires lines { All (λ (g : ℕ × FaultOf). IsLineOf part.old.simulator g.1.line) given.now }
-    ensures hits { IfOk part.new.hits (λ v. AreHits part.old.simulator patterns.now (dealt_hits deal.now.numbers.items number 0 given.now) v.items) }
-    ensures same { part.new.simulator ≡ part.old.simulator }
+    requires wide { All (HasWidthsOf core.now) patterns.now }
+    requires lines { All (λ (g : ℕ × FaultOf). IsLineOf core.now g.1.line) given.now }
+    requires same { part.old.simulator ≡ core.now }
+    ensures { HasFound core.now patterns.now deal.now.numbers.items given.now number part.new }
 {
     let hits = own_hits(
         alloc,
@@ -147,9 +149,9 @@ fn simulate_all<R: Threads + Sync>(
     ensures hits { HaveFound core.now patterns.now deal.now.numbers.items given.now parts.new }
 {
     let step = move |number: usize, part: &mut Part<'_>|
-        requires { (length given.now ≤ 2 ^ 32) × (length patterns.now ≤ 64) × All (HasWidthsOf part.now.simulator) patterns.now × All (λ (g : ℕ × FaultOf). IsLineOf part.now.simulator g.1.line) given.now }
-        ensures { HasFound part.entry.now.simulator patterns.entry.now deal.entry.now.numbers.items given.entry.now number part.exit.now }
-    { simulate(alloc, deal, number, patterns, given, part) };
+        requires { (length given.now ≤ 2 ^ 32) × (length patterns.now ≤ 64) × All (HasWidthsOf core.now) patterns.now × All (λ (g : ℕ × FaultOf). IsLineOf core.now g.1.line) given.now × (part.now.simulator ≡ core.now) }
+        ensures { HasFound core.entry.now patterns.entry.now deal.entry.now.numbers.items given.entry.now number part.exit.now }
+    { simulate(alloc, core, deal, number, patterns, given, part) };
     let workers = parts.len();
     thread::for_each_mut(rt, parts, workers, &step);
 }

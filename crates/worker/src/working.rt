@@ -6,13 +6,12 @@
 //!
 //! Where there is a goal it looks whether enough is detected: before its first claim, and behind each batch, which alone brings detections. To look
 //! before each claim would hold the lock for a pass over all classes as often.
-ghost use Rattle.std.specs.Prelude.{◌≡◌, ◌+◌, ◌≤◌, ◌<◌, ◌⊎◌, true, false, IfOk, IfNone, IfSome, IsTrue, OnOk, vec_len};
+ghost use Rattle.std.specs.Prelude.{◌≡◌, ◌+◌, ◌≤◌, ◌<◌, true, false, IfOk, IfNone, IfSome, OnOk, vec_len};
 ghost use Rattle.std.specs.List.{All};
 ghost use Rattle.cubes.specs.Cubes.{IsCubeOf};
+ghost use Rattle.evidence.specs.Answers.{HasEvidence, MayAnswer};
 ghost use Rattle.list_core.specs.States.{MaySettle};
-ghost use Rattle.shared_list.specs.Tally.{gave};
 ghost use Rattle.worker.specs.Working.{MaySearch};
-ghost use Rattle.worker.specs.inner.Outcomes.{IsOutcome};
 ghost use Rattle.worker.specs.inner.Stock.{IsStock};
 
 use crate::adding::add;
@@ -20,7 +19,7 @@ use crate::errands::{Brief, Errand, brief_of};
 use crate::outcomes::{Outcome, outcome_of};
 use crate::publishing::{Batcher, publish_cubes};
 use cubes::Cube;
-use evidence::{Engine, Evidence};
+use evidence::{Engine, Evidence, Found};
 use list_core::{About, Claim, Goal, Settling};
 use netlist::NoMemory;
 use outside::{Gate, Stage};
@@ -51,6 +50,7 @@ pub(crate) fn is_enough<
 }
 
 /// Searches claim after claim, until there is none, or enough is detected. Room for searches and for simulation is made once.
+#[tactic(auto, using(crate::proofs::WorkLemmas::if_none_given))]
 pub fn work<J: About, T: Ledger, S: Ledger, P: Ledger, U: Ledger, E: Engine, G: Gate, R: Wait>(
     errand: &Errand<'_, E, G, R>,
     shared: &Shared<J, T, S, P, U>,
@@ -65,9 +65,26 @@ pub fn work<J: About, T: Ledger, S: Ledger, P: Ledger, U: Ledger, E: Engine, G: 
 {
     let brief = brief_of::<J, E, G, R>(errand, goal);
     let mut batcher = Batcher::<J>::new(errand.alloc, errand.core, seed, share.worker())?;
-    let room = room_of(&brief, None)?;
-    let cubes = work_turns(&brief, shared, share, room, &mut batcher)?;
-    publish_cubes(&brief, shared, share, &mut batcher, &cubes)
+    let worked = work_by(&brief, shared, share, &mut batcher);
+    drop(batcher);
+    worked
+}
+
+/// The same with a batcher at hand.
+#[tactic(auto, using(crate::proofs::StockLemmas::lent_below, crate::proofs::WorkLemmas::if_none_still, crate::proofs::WorkLemmas::whatever_comes))]
+fn work_by<J: About, T: Ledger, S: Ledger, P: Ledger, U: Ledger, E: Engine, G: Gate, R: Wait>(
+    brief: &Brief<'_, J, E, G, R>,
+    shared: &Shared<J, T, S, P, U>,
+    share: &mut Share<T, S, P, U>,
+    batcher: &mut Batcher<'_, J>,
+) -> Result<(), NoMemory>
+    requires table { share.old.table ≡ shared.now.word.shared.table_id }
+    ensures table { share.new.table ≡ share.old.table }
+    ensures ended { OnOk result (IfNone brief.now (share.new.ended ≡ true)) }
+{
+    let room = room_of(brief, None)?;
+    let cubes = work_turns(brief, shared, share, room, batcher)?;
+    publish_cubes(brief, shared, share, batcher, &cubes)
 }
 
 /// The room that was kept, or a new one.
@@ -95,7 +112,8 @@ fn settle<J: About, T: Ledger, S: Ledger, P: Ledger, U: Ledger, E: Engine, G: Ga
 )
     requires table { share.old.table ≡ shared.now.word.shared.table_id }
     requires shows { MaySettle J.subject claim.fault evidence }
-    ensures { (share.new ≡ gave share.old) ⊎ (share.new ≡ share.old) }
+    ensures table { share.new.table ≡ share.old.table }
+    ensures unspent { share.new.unspent ≡ share.old.unspent }
 {
     if let Settling::Settled = shared.settle(brief.rt, share, claim, evidence) {
         brief.stage.at(share.worker(), settled);
@@ -108,15 +126,16 @@ fn answer<J: About, T: Ledger, S: Ledger, P: Ledger, U: Ledger, E: Engine, G: Ga
     shared: &Shared<J, T, S, P, U>,
     share: &mut Share<T, S, P, U>,
     claim: Claim<J>,
-    outcome: Outcome,
+    found: Found,
 ) -> Option<Cube>
     requires table { share.old.table ≡ shared.now.word.shared.table_id }
-    requires outcome { IsOutcome J.subject claim.fault outcome }
+    requires evidence { HasEvidence claim.fault J.subject.netlist J.subject.holds J.subject.limit found }
+    requires kind { MayAnswer J.subject.refutes found }
     ensures table { share.new.table ≡ share.old.table }
     ensures unspent { share.new.unspent ≡ share.old.unspent }
     ensures cube { IfSome result (IsCubeOf J.subject.netlist J.subject.holds) }
 {
-    match outcome {
+    match outcome_of(&claim, found) {
         Outcome::Test(cube, _) => Some(cube),
         Outcome::Settles(evidence, settled) => {
             settle(brief, shared, share, claim, evidence, settled);
@@ -150,29 +169,30 @@ pub(crate) fn searched<
     ensures room { IfOk result (λ r. E.serves J.subject.netlist J.subject.holds r.1) }
 {
     brief.stage.at(share.worker(), Stage::Claimed);
-    let (outcome, kept) = outcome_in(brief, &claim, room)?;
-    Ok((answer(brief, shared, share, claim, outcome), kept))
+    let (found, kept) = found_in(brief, &claim, room)?;
+    Ok((answer(brief, shared, share, claim, found), kept))
 }
 
 /// What a search for a claim answers. The room comes back.
-fn outcome_in<J: About, E: Engine, G: Gate, R>(
+#[tactic(auto, using(crate::proofs::WorkLemmas::line_there, crate::proofs::WorkLemmas::evidence_there, crate::proofs::WorkLemmas::kind_there))]
+fn found_in<J: About, E: Engine, G: Gate, R>(
     brief: &Brief<'_, J, E, G, R>,
     claim: &Claim<J>,
     room: E::Room,
-) -> Result<(Outcome, E::Room), NoMemory>
+) -> Result<(Found, E::Room), NoMemory>
     requires { E.serves J.subject.netlist J.subject.holds room }
-    ensures outcome { IfOk result (λ r. IsOutcome J.subject claim.now.fault r.0) }
+    ensures evidence { IfOk result (λ r. HasEvidence claim.now.fault J.subject.netlist J.subject.holds J.subject.limit r.0) }
+    ensures kind { IfOk result (λ r. MayAnswer J.subject.refutes r.0) }
     ensures room { IfOk result (λ r. E.serves J.subject.netlist J.subject.holds r.1) }
 {
-    let (found, kept) = brief.engine.search_in(
+    brief.engine.search_in(
         brief.alloc,
         room,
         brief.core,
         claim.fault(),
         claim.limit(),
         brief.holds,
-    )?;
-    Ok((outcome_of(found), kept))
+    )
 }
 
 /// Keeps the cube of a test.
@@ -237,7 +257,7 @@ fn work_claim<J: About, T: Ledger, S: Ledger, P: Ledger, U: Ledger, E: Engine, G
     Ok((kept, has_ended))
 }
 
-/// Draws a class, and works it, if one is left and still open: the room back, and whether to end, since none is left or enough is detected.
+/// Draws a class, and works it, if one is left and still open: the room back, and whether enough is detected. Where none is left the share has ended.
 fn take_turn<J: About, T: Ledger, S: Ledger, P: Ledger, U: Ledger, E: Engine, G: Gate, R: Wait>(
     brief: &Brief<'_, J, E, G, R>,
     shared: &Shared<J, T, S, P, U>,
@@ -252,16 +272,17 @@ fn take_turn<J: About, T: Ledger, S: Ledger, P: Ledger, U: Ledger, E: Engine, G:
     ensures table { share.new.table ≡ share.old.table }
     ensures room { IfOk result (λ r. E.serves J.subject.netlist J.subject.holds r.0) }
     ensures stock { OnOk result (IsStock J.subject share.new cubes.new) }
-    ensures told { IfOk result (λ r. IfNone brief.now (IsTrue r.1 → share.new.ended ≡ true)) }
+    ensures goal { IfOk result (λ r. IfNone brief.now (r.1 ≡ false)) }
 {
     match shared.take(brief.rt, share) {
         Drawn::Claim(claim) => { work_claim(brief, shared, share, claim, room, batcher, cubes) }
         Drawn::Gone(_) => Ok((room, false)),
-        Drawn::None => Ok((room, true)),
+        Drawn::None => Ok((room, false)),
     }
 }
 
 /// Turn after turn, until no class is left, or enough is detected: the cubes that aren't published yet.
+#[tactic(auto, using(crate::proofs::StockLemmas::none_at_hand, crate::proofs::WorkLemmas::not_enough, crate::proofs::WorkLemmas::whether_none))]
 fn work_turns<J: About, T: Ledger, S: Ledger, P: Ledger, U: Ledger, E: Engine, G: Gate, R: Wait>(
     brief: &Brief<'_, J, E, G, R>,
     shared: &Shared<J, T, S, P, U>,
@@ -277,14 +298,17 @@ fn work_turns<J: About, T: Ledger, S: Ledger, P: Ledger, U: Ledger, E: Engine, G
 {
     let mut room = room;
     let mut cubes = Vec::new(brief.alloc);
-    let mut has_ended = is_enough(brief, shared);
+    let mut enough = is_enough(brief, shared);
     for _ in brief.rt.forever() {
-        if has_ended {
+        if enough {
             break;
         }
-        let (kept, ends) = take_turn(brief, shared, share, room, batcher, &mut cubes)?;
+        if share.ended() {
+            break;
+        }
+        let (kept, detected) = take_turn(brief, shared, share, room, batcher, &mut cubes)?;
         room = kept;
-        has_ended = ends;
+        enough = detected;
     }
     Ok(cubes)
 }

@@ -3,7 +3,7 @@ use Rattle.std.specs.Prelude.{ℕ, ◌≡◌, List, ◌∷◌}
 use Rattle.std.specs.List.{All, Contains}
 use Rattle.statement.specs.Netlists.{Definition, Netlist}
 use Rattle.scan_insert.specs.Scanned.{cell_ids}
-use Rattle.bench_text.specs.inner.Written.{IsWritable}
+use Rattle.bench_text.specs.Written.{IsWritable}
 use Rattle.cell_order.specs.Ordered.{definitions_at, in_places}
 
 -- This stands in the place of d, and the others are left for those behind it.

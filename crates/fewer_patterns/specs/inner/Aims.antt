@@ -1,5 +1,5 @@
 -- What all rounds are given, and patterns that do as it says.
-use Rattle.std.specs.Prelude.{◌<◌, ◌≤◌, ◌+◌, ◌^◌}
+use Rattle.std.specs.Prelude.{ℕ, ◌<◌, ◌≤◌, ◌+◌, ◌^◌, List}
 use Rattle.std.specs.List.{All}
 use Rattle.statement.specs.declared.lines.Fault.{Fault}
 use Rattle.netlist.specs.Holds.{AreHoldsOf}
@@ -18,3 +18,7 @@ pub record IsAim (a : Aim) : Type 0 where
 -- patterns that detect each of its faults, and are no more than it allows
 abbrev pub IsEnough : Aim → Made → Type 0
 IsEnough a made = AreEnough a.core.now a.holds.now a.faults.now a.most made.patterns.items made.last.items
+
+-- the same of these faults, and of so many patterns at most
+abbrev pub IsEnoughFor : Aim → List Fault → ℕ → Made → Type 0
+IsEnoughFor a faults most made = AreEnough a.core.now a.holds.now faults most made.patterns.items made.last.items

@@ -6,7 +6,9 @@ use Rattle.statement.specs.declared.lines.Point.{Point}
 use Rattle.statement.specs.Netlists.{Netlist, signals}
 use Rattle.statement.specs.Patterns.{Detects, Pattern}
 use Rattle.statement.specs.Tests.{IsStrobedAt}
-use Rattle.observed_points.specs.Points.{point_of, points}
+use Rattle.scan_insert.specs.Scanned.{AreChainsOf}
+use Rattle.observed_points.specs.Points.{ArePoints, point_of, points}
+use Rattle.grade.specs.declared.keys.Timing.{Timing}
 
 -- by the cycle, and then by the output
 abbrev pub key_at : ℕ → ℕ → ℕ
@@ -37,6 +39,12 @@ pub record AreLeastKeys (n : Netlist) (chains : List (List ℕ)) (m : ℕ) (keys
   pub size : length keys ≡ length (signals n)
   pub lower : (c : ℕ) → c < m → (key : ℕ) × IsKeyOf n chains (point_of n c) key × (slice_index keys (signal_at n c) ≤ key)
   pub some : (x : ℕ) → x < length keys → (slice_index keys x ≡ most_key) ⊎ ((c : ℕ) × (c < m) × (signal_at n c ≡ x) × IsKeyOf n chains (point_of n c) (slice_index keys x))
+
+-- when what is observed of the netlist is strobed
+pub record IsTimingOf (n : Netlist) (t : Timing) : Type 0 where
+  pub are_chains : AreChainsOf n t.chains.now
+  pub are_points : ArePoints n t.points.seen.items t.points.first.items t.points.numbers.items
+  pub are_keys : AreLeastKeys n t.chains.now (length (points n)) t.keys.items
 
 -- the least key of the points at which the pattern detects the fault, where it does at some
 pub record IsFirstKey (n : Netlist) (chains : List (List ℕ)) (f : Fault) (p : Pattern) (key : ℕ) : Type 0 where

@@ -1,14 +1,15 @@
 -- Patterns of which so many detect each fault, and the verdicts by them.
-use Rattle.std.specs.Prelude.{ℕ, ◌≡◌, ◌≢◌, ◌+◌, ◌<◌, ◌≤◌, ◌^◌, ◌⊎◌, List, length, Option, Some, None, slice_index_or}
-use Rattle.std.specs.List.{All, AllPairs, Contains, slice_get}
+use Rattle.std.specs.Prelude.{ℕ, Bool, false, ◌≡◌, ◌≢◌, ◌+◌, ◌<◌, ◌≤◌, ◌^◌, ◌⊎◌, List, length, Option, Some, None, slice_index_or}
+use Rattle.std.specs.List.{All, AllPairs, AllZip, Contains, slice_get}
 use Rattle.statement.specs.declared.lines.Fault.{Fault}
 use Rattle.statement.specs.declared.lines.Point.{Point}
 use Rattle.statement.specs.Netlists.{Netlist}
 use Rattle.statement.specs.Patterns.{Holds, Pattern, IsDetectedAt}
 use Rattle.cubes.specs.Cubes.{IsPatternOf}
-use Rattle.word_sim.specs.Hits.{IsNeverDetected}
-use Rattle.detections.specs.Times.{IsNeededFor}
+use Rattle.word_sim.specs.Hits.{IsNeverDetected, LastDetected}
+use Rattle.detections.specs.Times.{AreNeededMarks, IsNeededFor}
 use Rattle.list_core.specs.Finished.{IsFinished, IsLastTold}
+use Rattle.list_core.specs.Kept.{kept_from}
 use Rattle.list_core.specs.declared.verdicts.Verdict.{Verdict}
 use Rattle.list_core.specs.declared.verdicts.Verdict.TheVariants.{Detected}
 use Rattle.list_core.specs.Verdicts.{verdict_at}
@@ -41,6 +42,16 @@ pub record AreNeeded (n : Netlist) (times : ℕ) (faults : List Fault) (patterns
   pub each : (place : ℕ) → place < length patterns → IsNeededFor n patterns times faults place
   pub differ : 1 < times → Differ patterns
 
+-- the last pattern that detects each fault
+pub record AreLastTold (n : Netlist) (patterns : List Pattern) (faults : List Fault) (told : List (Option (ℕ × Point))) : Type 0 where
+  pub each : AllZip (LastDetected n patterns) faults told
+
+-- those that are among the last so many to detect one of the faults
+pub record AreLastFew (n : Netlist) (times : ℕ) (faults : List Fault) (patterns kept : List Pattern) : Type 0 where
+  pub marks : List Bool
+  pub needed : AreNeededMarks n patterns times faults marks
+  pub kept_are : kept ≡ kept_from (λ i. slice_index_or marks i false) 0 patterns
+
 -- Detected where a pattern is told, else what it was
 abbrev pub told_verdict : Option (ℕ × Point) → Verdict → Verdict
 told_verdict None v = v
@@ -49,6 +60,14 @@ told_verdict (Some l) v = Detected l.0 l.1
 pub record AreTold (last : List (Option (ℕ × Point))) (old new : List Verdict) : Type 0 where
   pub size : length new ≡ length old
   pub each : (class : ℕ) → class < length old → verdict_at new class ≡ told_verdict (slice_index_or last class None) (verdict_at old class)
+
+-- the last few of the patterns, and each fault told by the last of them
+pub record AreFewTold (n : Netlist) (times : ℕ) (faults : List Fault) (patterns : List Pattern) (old : List Verdict) (kept : List Pattern) (new : List Verdict) : Type 0 where
+  pub few : AreLastFew n times faults patterns kept
+  pub last : List (Option (ℕ × Point))
+  pub last_are : AreLastTold n kept faults last
+  pub told : AreTold last old new
+  pub count : length old ≡ length faults
 
 -- Patterns that obey, each of them needed. Each class has its verdict by them, and what some pattern detected, chosen or not, is Detected.
 pub record AreChosen (n : Netlist) (holds : Holds) (times : ℕ) (faults : List Fault) (patterns : List Pattern) (old : List Verdict) (chosen : List Pattern) (new : List Verdict) : Type 0 where

@@ -1,8 +1,10 @@
 -- What a search finds.
-use Rattle.std.specs.Prelude.{ℕ, ◌≡◌, ◌-◌, ◌*◌, ◌<◌, ◌≤◌, ◌^◌, ◌⊎◌, ◌↔◌, ◌++◌, ◌+◌, ⊤, Bool, true, false, List, length, Option, Some, None, slice_index_or}
+use Rattle.std.specs.Prelude.{ℕ, ◌≡◌, ◌-◌, ◌*◌, ◌<◌, ◌≤◌, ◌^◌, ◌⊎◌, ◌↔◌, ◌++◌, ◌+◌, ⊤, Bool, true, false, List, length, map, Option, Some, None, slice_index_or}
 use Rattle.std.specs.Int.{div_ceil}
 use Rattle.std.specs.List.{All, slice_get}
+use Rattle.std.specs.Option.{is_some}
 use Rattle.statement.specs.declared.lines.Fault.{Fault}
+use Rattle.statement.specs.declared.lines.Point.{Point}
 use Rattle.statement.specs.Netlists.{Netlist}
 use Rattle.statement.specs.Patterns.{Holds, Pattern}
 use Rattle.cubes.specs.Cubes.{IsPatternOf}
@@ -23,7 +25,7 @@ use Rattle.run_files.specs.declared.asked.AskedClasses.{AskedClasses}
 use Rattle.run_files.specs.declared.searching.Left.{Left}
 use Rattle.run_files.specs.inner.Often.{AreNeeded}
 use Rattle.run_files.specs.inner.Classes.{IsAskedClass, detected_in}
-use Rattle.run_files.specs.inner.Plans.{AreFaultsOf}
+use Rattle.run_files.specs.inner.Plans.{AreFaultsOf, AreFew}
 use Rattle.run_files.specs.inner.Spread.{marked_weight, spread, unmarked_weights}
 use Rattle.run_files.specs.inner.Verdicts.{AreVerdicts, MayHave}
 
@@ -62,6 +64,12 @@ abbrev pub IsMet : Option ℕ → ℕ → ℕ → Type 0
 IsMet None asked detected = ⊥
 IsMet (Some percent) asked detected = percent * asked ≤ 100 * detected
 
+-- what is left beside the marked ones
+pub record IsLeftBeside (percent : Option ℕ) (a : AskedClasses) (marks : List Bool) (l : Left) : Type 0 where
+  pub found : l.found.items ≡ marks
+  pub exactly : l.faults.items ≡ unmarked marks a.faults.items
+  pub goal : IsGoalOf percent a.count a.weights.items marks l.goal
+
 -- what patterns leave of the classes that are asked for: marks of those that they detect, the others' faults, and what is enough of these
 pub record IsLeft (n : Netlist) (percent : Option ℕ) (a : AskedClasses) (patterns : List Pattern) (l : Left) : Type 0 where
   pub marks : AreDetectedMarks n patterns a.faults.items l.found.items
@@ -70,6 +78,33 @@ pub record IsLeft (n : Netlist) (percent : Option ℕ) (a : AskedClasses) (patte
   pub goal : IsGoalOf percent a.count a.weights.items l.found.items l.goal
 
 -- ---- what is found
+
+-- marks of what something is told of
+pub record AreMarksOf (told : List (Option (ℕ × Point))) (marks : List Bool) : Type 0 where
+  pub are : marks ≡ map is_some told
+
+-- patterns with more behind them
+pub record AreBehind (patterns more all : List Pattern) : Type 0 where
+  pub are : all ≡ patterns ++ more
+
+-- verdicts of those that aren't marked, spread over all; the patterns are the same
+pub record IsSpreadOver (marks : List Bool) (patterns : List Pattern) (verdicts : List Verdict) (same : List Pattern) (all : List Verdict) : Type 0 where
+  pub patterns_are : same ≡ patterns
+  pub verdicts_are : all ≡ spread marks verdicts
+
+-- the first patterns, and others behind them
+pub record AreDrawn (n : Netlist) (holds : Holds) (first all : List Pattern) : Type 0 where
+  pub few : AreFew n holds (2 ^ 27 + 2 ^ 17) all
+  pub drawn : List Pattern
+  pub behind : all ≡ first ++ drawn
+
+-- what a search finds of what patterns leave, its verdicts spread over all that is asked for
+pub record AreSpread (n : Netlist) (holds : Holds) (limit : ℕ) (refutes : Bool) (l : Left) (more : List Pattern) (verdicts : List Verdict) : Type 0 where
+  pub others : List Verdict
+  pub known : AreKnown n holds limit refutes l.faults.items more others
+  pub done : IsDone l.goal others
+  pub few : length more ≤ length l.faults.items + length l.faults.items
+  pub spreads : verdicts ≡ spread l.found.items others
 
 -- Before any pattern is left out: what a search adds to patterns that come first. The classes that these detect weren't searched, and are Open.
 pub record AreAdded (n : Netlist) (holds : Holds) (limit : ℕ) (refutes : Bool) (percent : Option ℕ) (a : AskedClasses) (first patterns : List Pattern) (verdicts : List Verdict) : Type 0 where
@@ -95,6 +130,10 @@ pub record AreFound (n : Netlist) (holds : Holds) (limit : ℕ) (refutes : Bool)
   pub few : length patterns < 2 ^ 32
   pub first_kept : (class : ℕ) (f : Fault) → slice_get faults class ≡ Some f → IsSeenBy n first f → one_if_class_detected (verdict_at verdicts class) ≡ 1
   pub done : NoneOpen verdicts ⊎ IsMet percent asked (detected_weight weights verdicts)
+
+-- of the classes that are asked for
+pub record AreFoundBy (n : Netlist) (holds : Holds) (limit : ℕ) (refutes : Bool) (times : ℕ) (percent : Option ℕ) (a : AskedClasses) (first patterns : List Pattern) (verdicts : List Verdict) : Type 0 where
+  pub found : AreFound n holds limit refutes times percent a.count a.faults.items a.weights.items first patterns verdicts
 
 -- of all classes, where these faults are asked for: no other class has a verdict
 pub record AreSearched (n : Netlist) (holds : Holds) (limit : ℕ) (refutes : Bool) (times : ℕ) (percent : Option ℕ) (classes : Classes) (marks : List Bool) (first : List Pattern)

@@ -16,6 +16,8 @@ use Rattle.report.specs.Reports.{IsReport, Report}
 use Rattle.report.specs.Texts.{report_text}
 use Rattle.list_core.specs.declared.verdicts.Verdict.{Verdict}
 use Rattle.run_files.specs.declared.files.RunFiles.{RunFiles}
+use Rattle.run_files.specs.declared.texts.NetlistTexts.{NetlistTexts}
+use Rattle.run_files.specs.declared.texts.TestTexts.{TestTexts}
 use Rattle.run_files.specs.inner.Reports.{AreTimes, IsSaid}
 use Rattle.run_files.specs.inner.Verdicts.{leaves_of}
 
@@ -38,12 +40,23 @@ pub record IsWritten (n : Netlist) (holds : Holds) (chains : List (List ℕ)) (c
   pub said : IsSaid n chains holds classes limit marks patterns verdicts made.said
   pub counted : AreTimes n patterns times made.said.times
 
+-- the texts of a netlist and of the scanned one
+pub record AreNetlistTexts (n scanned : Netlist) (t : NetlistTexts) : Type 0 where
+  pub net : t.net.items ≡ canonical n
+  pub scan : t.scan.items ≡ canonical scanned
+
+-- the texts of a test and of its certificate
+pub record AreTestTexts (n : Netlist) (holds : Holds) (chains : List (List ℕ)) (classes : Classes) (patterns : List Pattern) (verdicts : List Verdict) (t : TestTexts) : Type 0 where
+  pub stil : IsTestText n holds chains patterns t.stil.items
+  pub certificate : t.certificate.items ≡ certificate_text n (leaves_of classes.representatives verdicts)
+  pub small : All (λ (p : Fault × Evidence). HasSmallNumbers p.1) (leaves_of classes.representatives verdicts)
+
 -- these four texts, and that of the report beside them
-pub record IsMadeOf (of_netlist of_scanned of_test of_leaves : List ℕ) (report : Report) (made : RunFiles) : Type 0 where
-  pub net : made.net.items ≡ of_netlist
-  pub scan : made.scan.items ≡ of_scanned
-  pub stil : made.stil.items ≡ of_test
-  pub certificate : made.certificate.items ≡ of_leaves
+pub record IsMadeOf (netlists : NetlistTexts) (test : TestTexts) (report : Report) (made : RunFiles) : Type 0 where
+  pub net : made.net ≡ netlists.net
+  pub scan : made.scan ≡ netlists.scan
+  pub stil : made.stil ≡ test.stil
+  pub certificate : made.certificate ≡ test.certificate
   pub text : made.report.items ≡ report_text report
   pub is_report : IsReport report
   pub said : made.said ≡ report

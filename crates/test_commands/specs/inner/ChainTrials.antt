@@ -2,6 +2,7 @@
 use Rattle.std.specs.Prelude.{ℕ, ◌≡◌, ◌<◌, ◌++◌, ⊤, List, [], ◌∷◌, IfSome, Result, Ok, Err, codes, decimal, length}
 use Rattle.std.specs.List.{AllZip}
 use Rattle.statement.specs.Benches.{Text}
+use Rattle.statement.specs.declared.lines.Fault.{Fault}
 use Rattle.bench_text.specs.declared.refusal.Names.TheVariants.{Design}
 use Rattle.netlist.specs.Designs.{IsDesign}
 use Rattle.statement.specs.Netlists.{Netlist}
@@ -46,11 +47,15 @@ IsOutput s told = IfSome told (λ place. place.1 < length s.outputs)
 abbrev pub counts_text : ℕ → ℕ → ℕ → Text
 counts_text faults fails untold = codes "faults " ++ (decimal faults ++ (codes " fails " ++ (decimal fails ++ (codes " untold " ++ (decimal untold ++ codes "\n")))))
 
--- the text of what is told of the hardware's faults
-pub record IsTestText (h : Hardware) (file : StilFile) (text : Text) : Type 0 where
+-- the text of what is told of these faults
+pub record IsTextOf (s : Netlist) (faults : List Fault) (file : StilFile) (text : Text) : Type 0 where
   pub told : List Strobe
-  pub each : AllZip (IsTold h.scanned.netlist (vectors_in file)) h.faults.items told
-  pub text_is : text ≡ chain_test_text h.scanned.netlist h.faults.items told
+  pub each : AllZip (IsTold s (vectors_in file)) faults told
+  pub text_is : text ≡ chain_test_text s faults told
+
+-- the same of the hardware's faults
+abbrev pub IsTestText : Hardware → StilFile → Text → Type 0
+IsTestText h file text = IsTextOf h.scanned.netlist h.faults.items file text
 
 abbrev pub text_due : Hardware → StilFile → Due Refusal → Type 0
 text_due h file d = (text : Text) × IsTestText h file text × (d ≡ Deliver [] text Fine)

@@ -1,11 +1,12 @@
 -- What is graded.
-use Rattle.std.specs.Prelude.{ℕ, ◌≡◌, ◌<◌, ⊤, [], ◌∷◌, length}
+use Rattle.std.specs.Prelude.{ℕ, ◌≡◌, ◌<◌, ◌≤◌, ⊤, [], ◌∷◌, length}
 use Rattle.statement.specs.Benches.{Text}
+use Rattle.netlist.specs.Designs.{IsDesign}
 use Rattle.statement.specs.Netlists.{Netlist}
 use Rattle.statement.specs.Stils.{StilFile}
 use Rattle.statement.specs.Tests.{vectors_in}
 use Rattle.good_files.specs.ScanOff.{design_chains}
-use Rattle.scan_insert.specs.Scanned.{scanned_of}
+use Rattle.scan_insert.specs.Scanned.{Insertion, insertion_of, scanned_of}
 use Rattle.stil_read.specs.Reading.{StandsFor}
 use Rattle.stil_vectors.specs.Fitting.{FitsNetlist}
 use Rattle.grade.specs.declared.grade.Grade.{Grade}
@@ -16,6 +17,12 @@ use Rattle.test_commands.specs.Grades.{IsGradeProduct}
 use Rattle.command_steps.specs.Steps.{◌>>=◌, test, value}
 use Rattle.command_steps.specs.declared.refusal.Refusal.{Refusal}
 use Rattle.command_steps.specs.declared.refusal.Refusal.TheVariants.{NotStil, StilDoesNotFit}
+
+-- a design, and what insertion made of it in at most so many chains
+pub record IsScannedIn (n : Netlist) (asked : ℕ) (scanned : Insertion) : Type 0 where
+  pub design : IsDesign n
+  pub some : 1 ≤ asked
+  pub is_scanned : scanned ≡ insertion_of n (design_chains n asked)
 
 -- the strobe that a grade names is one of an output
 abbrev pub IsGradeOutput : Netlist → Grade → Type 0

@@ -1,5 +1,5 @@
 -- Batches of slow lines that are gathered from a list of faults.
-use Rattle.std.specs.Prelude.{ℕ, ◌≡◌, ◌+◌, ◌<◌, ◌≤◌, true, List, Some, length, slice_index_or}
+use Rattle.std.specs.Prelude.{ℕ, ◌≡◌, ◌+◌, ◌<◌, ◌≤◌, ◌^◌, true, List, Some, length, slice_index_or}
 use Rattle.std.specs.List.{All, AllPairs, AllZip, slice_get}
 use Rattle.statement.specs.declared.lines.Fault.{Fault}
 use Rattle.netlist.specs.Lines.{IsLineOf}
@@ -7,9 +7,15 @@ use Rattle.statement.specs.Netlists.{Netlist}
 use Rattle.transition_batches.specs.Batches.{AreApart}
 use Rattle.transition.specs.inner.Asked.{Asked}
 
--- this fault stands at the place, is left, and goes with all that are taken
+-- the slots behind the first, so many, are for faults of the list
+pub record IsShare (a : Asked) (first count : ℕ) : Type 0 where
+  pub within : first + count ≤ length a.faults
+  pub few : length a.faults < 2 ^ 32
+
+-- this fault stands at the place, on a line of the netlist, is left, and goes with all that are taken
 pub record MayJoin (a : Asked) (taken : List Fault) (place : ℕ) (f : Fault) : Type 0 where
   pub fault : slice_get a.faults place ≡ Some f
+  pub line : IsLineOf a.netlist f.line
   pub marked : slice_index_or a.left place true ≡ true
   pub apart : All (λ (g : Fault). AreApart a.netlist g f) taken
 

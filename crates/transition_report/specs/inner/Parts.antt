@@ -32,6 +32,10 @@ pub record IsWrittenIn (n two : Netlist) (p : Fault × Evidence) : Type 0 where
   pub fault : Contains (universe_of n) p.0
   pub formed : IsWellFormed two p.1
 
+-- two frames, in which some line is slow
+abbrev pub IsFramed : Netlist → Netlist → Type 0
+IsFramed n two = (slow : Fault) × (two ≡ frames_of n slow)
+
 -- a line without its end
 abbrev pub slow_words : Netlist → Netlist → Fault × Evidence → List ℕ
 slow_words n two p = transition_text n p.0 ++ evidence_text two p.1

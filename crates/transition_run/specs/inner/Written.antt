@@ -36,6 +36,19 @@ pub record IsSaid (n : Netlist) (holds : Holds) (chains : List (List ℕ)) (limi
   pub sized : HasWritableShares r
   pub counts : AreSmallCounts r.counts
 
+-- the texts of both netlists and of the report
+pub record IsTold (n : Netlist) (holds : Holds) (chains : List (List ℕ)) (limit : ℕ) (patterns : List Pattern) (verdicts : List TransitionVerdict) (net scan report : List ℕ) (said : TransitionReport) : Type 0 where
+  pub net_is : net ≡ canonical n
+  pub scan_is : scan ≡ canonical (scanned_of n chains)
+  pub report_is : report ≡ transition_report_text said
+  pub told : IsSaid n holds chains limit patterns verdicts said
+
+-- the texts of the patterns and of the evidence
+pub record IsShown (n : Netlist) (holds : Holds) (chains : List (List ℕ)) (patterns : List Pattern) (verdicts : List TransitionVerdict) (stil certificate : List ℕ) : Type 0 where
+  pub launch : IsLaunchText n holds chains patterns stil
+  pub certificate_is : certificate ≡ transition_certificate n (leaves_of (universe_of n) verdicts)
+  pub small : All (λ (p : Fault × Evidence). HasSmallNumbers p.1) (leaves_of (universe_of n) verdicts)
+
 pub record IsWritten (n : Netlist) (holds : Holds) (chains : List (List ℕ)) (limit : ℕ) (patterns : List Pattern) (verdicts : List TransitionVerdict) (made : TransitionFiles) : Type 0 where
   pub net : made.net.items ≡ canonical n
   pub scan : made.scan.items ≡ canonical (scanned_of n chains)

@@ -26,8 +26,8 @@ returns-in-Err-Failed g c =
     let due = faults_deliver texts c.in-Ok-design_of.netlist put.0 c.in-Ok-design_of.ensures put.1 in
     ([], put.0, Fine, (texts, are, due), (read.1, put.2.0, (read.2, put.2.1)))
 
-pub returns : goal.returns
-returns g c =
+pub returns-in-Err-NoMemory-put_fault_list : goal.returns-in-Err-NoMemory-put_fault_list
+returns-in-Err-NoMemory-put_fault_list g c =
     let read = c.in-Ok.ensures in
     let texts = texts_of c.in-Ok.texts.items in
     let are = read_as (g.S.Shelf.files c.args.shelf.now) (file_name_of c.of.result) c.args.net.now texts c.of.ensures read.0 in

@@ -3,5 +3,5 @@ use Rattle.std.proofs.lemmas.Result.{IfOk-weaker}
 use Rattle.std.specs.declared.alloc.Global.{Global}
 use Rattle.atpg_top.proofs.slow_lines.product_by.Goals as goal
 
-pub returns-clause-shown : goal.returns-clause-shown
-returns-clause-shown c = IfOk-weaker c.five_files_product.result _ _ (λ p same. ap (λ (v : Vec ℕ Global). v.items) same ∙ c.in_ok-shown.ensures) c.five_files_product.ensures.shown
+pub returns-in-Ok-clause-shown : goal.returns-in-Ok-clause-shown
+returns-in-Ok-clause-shown c = IfOk-weaker c.product_with.result _ _ (λ p same. ap (λ (v : Vec ℕ Global). v.items) same ∙ c.in-Ok.ensures) c.product_with.ensures.shown

@@ -1,9 +1,9 @@
 use Rattle.std.proofs.Common.{None, true, rules, arith, ◌∙◌, ap, length}
 use Rattle.std.proofs.lemmas.List.{length-map}
-use Rattle.std.proofs.lemmas.List.Elements.{All-nil}
 use Rattle.statement.specs.declared.lines.Fault.{Fault}
 use Rattle.statement.specs.Faults.{universe_of}
 use Rattle.asked_run.specs.Asked.{all_faults}
+use Rattle.atpg_top.proofs.SweepLemmas.{is_wanted}
 use Rattle.atpg_top.proofs.sweeping.run_sample.Goals as goal
 
 pub by_trees-requires : goal.by_trees-requires
@@ -25,11 +25,8 @@ by_trees-requires g c =
             rounds = omega arith;
             times = (omega arith, omega arith);
           };
-          wanted = record {
-            faults = ap length (c.in_ok-faults.ensures ∙ ap all_faults c.netlist.ensures) ∙ length-map (universe_of n) (λ (f : Fault). true);
-            first = rw c.new-first.ensures.items (All-nil _);
-            few = omega (arith, ap length c.new-first.ensures.items);
-          };
+          wanted = is_wanted n c.in_ok-holds.holds _ (ap length (c.in_ok-faults.ensures ∙ ap all_faults c.netlist.ensures) ∙ length-map (universe_of n) (λ (f : Fault). true))
+              c.new-first.ensures.items;
         },
       ),
     )

@@ -17,18 +17,13 @@ parted-requires-clause-size g c =
     let a = c.args.aim.now in
     omega (arith, AllZip-long (LastDetected a.core.now c.args.patterns.items) a.faults.now c.args.last.now c.requires.told)
 
-pub improved-requires-clause-aim : goal.improved-requires-clause-aim
-improved-requires-clause-aim g c κs within =
+pub improved_front-best-requires-clause-lines : goal.improved_front-best-requires-clause-lines
+improved_front-best-requires-clause-lines g c κs within =
     let a = c.args.aim.now in
-    record {
-      held = c.requires.aim.held;
-      lines = subst (λ (fs : List Fault). All (λ (f : Fault). IsLineOf a.core.now f.line) fs) (sym c.deref.ensures.value) (c.in_ok-left.ensures.lines a.core.now c.requires.aim.lines);
-      few = omega arith;
-      workers = c.requires.aim.workers;
-    }
+    subst (λ (fs : List Fault). All (λ (f : Fault). IsLineOf a.core.now f.line) fs) (sym c.deref.ensures.value) (c.in_ok-left.ensures.lines a.core.now c.requires.aim.lines)
 
-pub improved-requires-clause-enough : goal.improved-requires-clause-enough
-improved-requires-clause-enough g c κs within =
+pub improved_front-best-requires-clause-enough : goal.improved_front-best-requires-clause-enough
+improved_front-best-requires-clause-enough g c κs within =
     let a = c.args.aim.now in
     let start = c.in_ok-start.start in
     let front = c.in_ok-left.field-0 in
@@ -47,7 +42,7 @@ returns g c =
     let n = a.core.now in
     let start = c.in_ok-start.start in
     let front = c.in_ok-left.field-0 in
-    let best = c.in_ok-best.best in
+    let best = c.in_ok-best.field-0 in
     let low : start ≤ length c.args.patterns.items = omega (arith, c.in_ok-start.ensures, c.len.ensures) in
     let enough = subst (λ (fs : List Fault). AreEnough n a.holds.now fs start best.patterns.items best.last.items) c.deref.ensures.value c.in_ok-best.ensures in
     IfOk-weaker c.with_tail.result (λ (all : ToldPatterns). AreJoined n start a.faults.now c.args.last.now best.patterns.items best.last.items front.tail.items all)

@@ -1,20 +1,10 @@
-use Rattle.std.proofs.Common.{List, Option, ℕ, subst, arith}
-use Rattle.std.specs.List.{All, AllZip}
-use Rattle.statement.specs.declared.lines.Point.{Point}
-use Rattle.statement.specs.Netlists.{Netlist}
+use Rattle.std.proofs.Common.{List, subst}
 use Rattle.statement.specs.Patterns.{Pattern}
-use Rattle.cubes.specs.Cubes.{IsPatternOf}
-use Rattle.word_sim.specs.Hits.{LastDetected}
-use Rattle.fewer_patterns.specs.inner.Enough.{AllTold}
+use Rattle.fewer_patterns.specs.inner.Enough.{AreEnough}
 use Rattle.fewer_patterns.proofs.rounds.verified.Goals as goal
 
-pub returns : goal.returns
-returns g c =
+pub returns-in-Some : goal.returns-in-Some
+returns-in-Some g c =
     let a = c.args.aim.now in
-    let obey = subst (λ (m : Netlist). All (IsPatternOf m a.holds.now) c.deref.result.now) c.netlist.ensures c.if-not-are_patterns.ensures in
-    record {
-      obey = subst (λ (ps : List Pattern). All (IsPatternOf a.core.now a.holds.now) ps) c.deref.ensures.value obey;
-      few = omega (arith, c.if-len-aim.false);
-      detect = subst (λ (ps : List Pattern). AllZip (LastDetected a.core.now ps) a.faults.now c.in_ok-last.last.items) c.deref-2.ensures.value c.in_ok-last.ensures;
-      told = subst (λ (ls : List (Option (ℕ × Point))). AllTold ls) c.deref-3.ensures.value (c.are_told.ensures c.if-not-are_told.false);
-    }
+    let enough = rw c.in-Some.is at c.in_ok-found.ensures in
+    subst (λ (ps : List Pattern). AreEnough a.core.now a.holds.now a.faults.now a.most ps c.in-Some.told.last.items) c.deref.ensures.value enough

@@ -3,4 +3,4 @@ use Rattle.grade.specs.inner.ByPatterns.{AreGradedPart}
 use Rattle.grade.proofs.by_patterns.grade_batch.Given as goal
 
 abbrev pub invariant-loop-i : goal.invariant-loop-i
-invariant-loop-i l = AreGradedPart l.initial.events.netlist l.chains l.latest l.start l.end l.i l.faults l.told l.grades.items × (l.events ≡ l.initial.events)
+invariant-loop-i l = AreGradedPart l.asked l.start l.i l.grades.items × (l.events ≡ l.initial.events)

@@ -7,4 +7,4 @@ pub loop-batch-preserved : goal.loop-batch-preserved
 loop-batch-preserved g c =
     let old = c.loop-batch.all.items in
     batch_more (λ f grade. IsGraded c.args.core.now f c.args.vectors.now grade) c.args.lines.now old c.in_ok-grades.grades.items c.extend_from_slice.new.self.items c.loop-batch.batch
-    c.batch_at-own.result.now c.batch_at-own.ensures.batch (c.in_ok-extend_from_slice.ensures.items ∙ ap (λ gs. old ++ gs) c.deref.ensures.value) c.loop-batch.invariant c.in_ok-grades.ensures
+    c.batch_at-own.result.now c.batch_at-own.ensures (c.in_ok-extend_from_slice.ensures.items ∙ ap (λ gs. old ++ gs) c.deref.ensures.value) c.loop-batch.invariant c.in_ok-grades.ensures

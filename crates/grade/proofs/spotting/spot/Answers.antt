@@ -13,5 +13,5 @@ returns-in-Some-clause-first c =
     let same = c.netlist-netlist.ensures ∙ c.core.ensures in
     let sound : IsSound n = subst IsSound same c.sound.ensures in
     let read : IsReadAt n c.args.fault.now.line number = subst (λ (m : Netlist). IsReadAt m c.args.fault.now.line number) same c.in-Some.ensures in
-    let key : IsKeyOf n c.args.chains.now (point_of n number) c.key_of.result = subst (λ (m : Netlist). IsKeyOf m c.args.chains.now (point_of m number) c.key_of.result) same c.key_of.ensures in
-    sole_spotted n sound c.args.chains.now c.args.fault.now c.args.events.now.values c.args.j c.requires.low number c.key_of.result read key
+    let key : IsKeyOf n c.args.timing.now.chains.now (point_of n number) c.key_of.result = subst (λ (m : Netlist). IsKeyOf m c.args.timing.now.chains.now (point_of m number) c.key_of.result) same c.key_of.ensures in
+    sole_spotted n sound c.args.timing.now.chains.now c.args.fault.now c.args.events.now.values c.args.j c.requires.low number c.key_of.result read key

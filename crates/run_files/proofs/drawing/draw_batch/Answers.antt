@@ -1,32 +1,13 @@
-use Rattle.std.proofs.Common.{ℕ, false, List, length, get_or, ap, subst, sym, arith}
-use Rattle.std.specs.List.{All}
-use Rattle.statement.specs.Patterns.{Pattern}
-use Rattle.cubes.specs.Cubes.{IsPatternOf}
-use Rattle.word_sim.proofs.WidthLemmas.{widths}
-use Rattle.list_core.proofs.KeepLemmas.{kept_all, kept_few}
+use Rattle.run_files.proofs.DrawLemmas.{is_batch, may_simulate}
 use Rattle.run_files.proofs.drawing.draw_batch.Goals as goal
 
-pub hits-requires-clause-few : goal.hits-requires-clause-few
-hits-requires-clause-few g c =
-    let drawn = ap length c.deref.ensures.value in
-    omega (arith, drawn, c.in_ok-drawn.ensures.count)
+pub hits_of-requires-clause-batch : goal.hits_of-requires-clause-batch
+hits_of-requires-clause-batch g c κs within =
+    may_simulate c.args.errand.now.core.now c.args.errand.now.holds.now c.args.cube.now c.args.simulators.now c.in_ok-drawn.drawn.items c.args.left.now c.requires.drawing c.in_ok-drawn.ensures
+    c.requires.lines c.deref.result.now c.deref.ensures.value
 
-pub hits-requires-clause-wide : goal.hits-requires-clause-wide
-hits-requires-clause-wide g c κs lives =
-    let n = c.args.simulators.now in
-    let held = c.requires.cube in
-    rw c.deref.ensures.value (widths n held.0 c.in_ok-drawn.drawn.items (c.in_ok-drawn.ensures.obey n held.0 held.1))
-
-pub returns-clause-obey : goal.returns-clause-obey
-returns-clause-obey g c holds is =
-    let P : Pattern → Type 0 = IsPatternOf c.args.simulators.now holds in
-    subst (λ (ps : List Pattern). All P ps) (sym c.in_ok-taken.ensures)
-    (kept_all P (λ i. get_or c.deref-5.result.now i false) 0 c.in_ok-drawn.drawn.items (c.in_ok-drawn.ensures.obey c.args.simulators.now holds is))
-
-pub returns-clause-few : goal.returns-clause-few
-returns-clause-few g c =
-    let taken = ap length c.in_ok-taken.ensures in
-    omega (arith, taken, kept_few (λ (i : ℕ). get_or c.deref-5.result.now i false) 0 c.in_ok-drawn.drawn.items, c.in_ok-drawn.ensures.count)
-
-pub returns-clause-lines : goal.returns-clause-lines
-returns-clause-lines g c = c.in_ok-rest.ensures c.args.simulators.now c.requires.lines
+pub returns-clause-batch : goal.returns-clause-batch
+returns-clause-batch g c =
+    let batch = c.in_ok-taken_of.field-0 in
+    is_batch c.args.errand.now.core.now c.args.errand.now.holds.now c.args.cube.now c.args.simulators.now c.in_ok-drawn.drawn.items c.args.left.now c.requires.drawing c.in_ok-drawn.ensures
+    c.requires.lines batch.0.items batch.1.items c.in_ok-taken_of.ensures.taken c.in_ok-taken_of.ensures.rest

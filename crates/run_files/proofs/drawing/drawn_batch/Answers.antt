@@ -1,6 +1,7 @@
 use Rattle.std.proofs.Common.{[], ◌∷◌, length-append, arith}
 use Rattle.std.proofs.lemmas.List.Elements.{All-push}
 use Rattle.cubes.specs.Cubes.{IsPatternOf}
+use Rattle.run_files.specs.inner.Batches.{AreOfCube}
 use Rattle.run_files.proofs.drawing.drawn_batch.Goals as goal
 
 pub loop-drawn-preserved : goal.loop-drawn-preserved
@@ -12,3 +13,7 @@ loop-drawn-preserved g c =
       count = omega (arith, all, c.loop-drawn.invariant.count);
       obey = λ n holds is. All-push (IsPatternOf n holds) old one (c.loop-drawn.invariant.obey n holds is) (c.in_ok-pattern.ensures.fits n holds is);
     })
+
+pub returns : goal.returns
+unfolding AreOfCube
+returns g c = (omega (arith, c.loop-drawn.invariant.count, c.loop-drawn-test.false), c.loop-drawn.invariant.obey)

@@ -3,6 +3,7 @@ use Rattle.std.specs.List.{All}
 use Rattle.std.proofs.lemmas.List.Elements.{All-push}
 use Rattle.statement.specs.declared.lines.Fault.{Fault}
 use Rattle.netlist.specs.Lines.{IsLineOf}
+use Rattle.run_files.specs.inner.Batches.{AreRest}
 use Rattle.run_files.proofs.drawing.left_after.Goals as goal
 use Rattle.run_files.proofs.drawing.left_after.Goals.{then-not-taken+in_ok-push, else-not-taken}
 
@@ -16,3 +17,7 @@ loop-one-preserved c n lines =
           (subst (λ (gs : List (ℕ × Fault)). All P gs) (sym w.in_ok-push.ensures.items) (All-push P c.loop-one.rest.items c.one-item.result (c.loop-one.invariant n lines) here))
       | else-not-taken w ↦ subst (λ v. All P v.items) (sym w.rest-is) (c.loop-one.invariant n lines)
     ]
+
+pub returns : goal.returns
+unfolding AreRest
+returns c = λ n are. record { lines = c.loop-one.invariant n are.lines }

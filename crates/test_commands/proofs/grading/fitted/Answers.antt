@@ -15,7 +15,7 @@ returns-in-Ok g c =
     let n = c.args.trial.now.netlist in
     let chains = design_chains n c.args.asked in
     let file = c.args.trial.now.file in
-    let is = c.netlist.ensures ∙ ap (λ (s : Insertion). s.netlist) c.requires.scanned in
+    let is = c.netlist.ensures ∙ ap (λ (s : Insertion). s.netlist) c.requires.is_scanned in
     let fits = subst (λ (m : Netlist). FitsNetlist file m) is c.in-Ok.ensures in
     then_worked (test (FitsNetlist file (scanned_of n chains)) StilDoesNotFit) (λ _. graded_due c.args.asked n file) 1 tt c.graded.result fits c.graded.ensures
 
@@ -24,6 +24,6 @@ returns-in-Err g c =
     let n = c.args.trial.now.netlist in
     let chains = design_chains n c.args.asked in
     let file = c.args.trial.now.file in
-    let is = c.netlist.ensures ∙ ap (λ (s : Insertion). s.netlist) c.requires.scanned in
+    let is = c.netlist.ensures ∙ ap (λ (s : Insertion). s.netlist) c.requires.is_scanned in
     let refused : Answers (test (FitsNetlist file (scanned_of n chains)) StilDoesNotFit) (Err c.in-Err.stop) = subst (λ (m : Netlist). Answers (test (FitsNetlist file m) StilDoesNotFit) (Err c.in-Err.stop)) is c.in-Err.ensures in
     stopped (test (FitsNetlist file (scanned_of n chains)) StilDoesNotFit) (λ _. graded_due c.args.asked n file) 1 c.in-Err.stop refused

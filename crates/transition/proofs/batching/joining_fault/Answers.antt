@@ -1,4 +1,4 @@
-use Rattle.std.proofs.Common.{◌≡◌, ◌<◌, IsTrue, true, length, get_or, ap, sym, subst, arith, rules}
+use Rattle.std.proofs.Common.{◌≡◌, IsTrue, true, length, get_or, ap, sym, subst, arith, rules}
 use Rattle.std.specs.List.{All}
 use Rattle.statement.specs.declared.lines.Fault.{Fault}
 use Rattle.netlist.specs.Lines.{IsLineOf}
@@ -27,4 +27,6 @@ returns-then-is_apart g c =
     let f = c.fault-fault.result in
     let told : IsTrue c.is_apart.result = search rules in
     let marked : get_or t.left.now c.args.place true ≡ true = search rules in
-    subst (λ (a : Asked). MayJoin a c.args.taken.now c.args.place f) c.task.view_is (record { fault = c.fault-fault.ensures; marked = marked; apart = c.is_apart.ensures.0 told })
+    let line = line_at t.netlist.now t.faults.now c.task.invariant.lines c.args.place f c.fault-fault.ensures in
+    subst (λ (a : Asked). MayJoin a c.args.taken.now c.args.place f) c.task.view_is
+    (record { fault = c.fault-fault.ensures; line = line; marked = marked; apart = c.is_apart.ensures.0 told })

@@ -1,6 +1,5 @@
-use Rattle.std.proofs.Common.{take}
-use Rattle.transition.specs.inner.Asked.{AreAnswers}
+use Rattle.transition.specs.inner.Steps.{AreFirstAnswers}
 use Rattle.transition.proofs.batching.search_each.Given as goal
 
 abbrev pub invariant-loop-fault : goal.invariant-loop-fault
-invariant-loop-fault g l = AreAnswers l.task (take l.fault-index l.slow) l.answers.items
+invariant-loop-fault g l = AreFirstAnswers l.task l.slow l.fault-index l.answers.items

@@ -26,7 +26,7 @@ search_tie-requires-clause-holds g c κs within =
 pub search_tie-requires-clause-tie : goal.search_tie-requires-clause-tie
 search_tie-requires-clause-tie g c κs within =
     let f = c.index-slow-j.result in
-    let is = c.tie_fault-tie.ensures ∙ ap (λ (a : Asked). batch_fault a.netlist c.loop-j.j f) c.task.view_is in
+    let is = subst (λ (a : Asked). c.tie_fault-tie.result ≡ batch_fault a.netlist c.loop-j.j f) c.task.view_is c.tie_fault-tie.ensures in
     tie_line c.args.task.now.netlist c.args.slow.now c.loop-j.j f c.args.core.now c.tie_fault-tie.result c.requires.core (subst IsSound c.netlist.ensures c.sound-2.ensures)
     c.loop-j-test.true is
 
@@ -34,7 +34,7 @@ pub search_tie-requires-clause-carries : goal.search_tie-requires-clause-carries
 search_tie-requires-clause-carries g c κs within found =
     let f = c.index-slow-j.result in
     let all = subst (λ (b : Asked). IsTask b c.task.inside.names.now) c.task.view_is c.task.invariant in
-    let is = c.tie_fault-tie.ensures ∙ ap (λ (a : Asked). batch_fault a.netlist c.loop-j.j f) c.task.view_is in
+    let is = subst (λ (a : Asked). c.tie_fault-tie.result ≡ batch_fault a.netlist c.loop-j.j f) c.task.view_is c.tie_fault-tie.ensures in
     carried c.batch_carries.ensures c.args.task.now c.args.slow.now c.loop-j.j f c.args.core.now c.tie_fault-tie.result
     (subst (λ (b : Asked). IsSound b.netlist) c.task.view_is c.sound.ensures) all.design c.requires.together c.requires.core
     (subst IsSound c.netlist.ensures c.sound-2.ensures) is c.loop-j-test.true (sym c.index-slow-j.is) found

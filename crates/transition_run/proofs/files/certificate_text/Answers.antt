@@ -3,7 +3,6 @@ use Rattle.std.specs.List.{All}
 use Rattle.statement.specs.declared.lines.Fault.{Fault}
 use Rattle.statement.specs.Netlists.{Netlist}
 use Rattle.netlist.specs.Conditions.{IsSound}
-use Rattle.netlist.specs.Designs.{IsDesign}
 use Rattle.evidence.specs.declared.kinds.Evidence.{Evidence}
 use Rattle.certificate.specs.Certificates.{HasSmallNumbers}
 use Rattle.transition.proofs.Gathering.{universe_few}

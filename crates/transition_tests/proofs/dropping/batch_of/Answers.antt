@@ -4,9 +4,9 @@ use Rattle.std.proofs.lemmas.Result.{IfOk-weaker}
 use Rattle.rand_core.specs.Steps.{stream_of, steps_u32}
 use Rattle.rand_pcg.specs.Lcg.{Lcg}
 use Rattle.rand_pcg.specs.Pcg.{pcg32}
-use Rattle.cubes.specs.Cubes.{Cube, IsPatternOf}
+use Rattle.cubes.specs.Cubes.{Cube, IsPatternOf, open_cube}
 use Rattle.statement.specs.Patterns.{Pattern}
-use Rattle.transition_tests.specs.Batches.{batch_of, drawn, open_cube, words_on_stream}
+use Rattle.transition_tests.specs.Batches.{batch_of, drawn, words_on_stream}
 use Rattle.transition_tests.proofs.BatchLemmas.{drawn_count, drawn_obey}
 use Rattle.transition_tests.proofs.dropping.batch_of.Goals as goal
 

@@ -14,7 +14,7 @@ hits_of_pass-requires-clause-pass c = record {
   used = c.used_bits.ensures;
   lines = c.requires.lines;
   reaches = subst (AreReaches c.args.events.now.netlist c.args.events.now.values c.args.faults.now) (sym c.deref.ensures.value)
-      (subst (λ (m : Netlist). AreReaches m c.args.events.now.values c.args.faults.now c.gather.new.self.reaches.items) c.core.ensures
-      (subst (λ (vs : List ℕ). AreReaches c.core.result.now vs c.args.faults.now c.gather.new.self.reaches.items) c.values.ensures.values c.in_ok-gather.ensures.reaches));
+      (subst (λ (m : Netlist). AreReaches m c.args.events.now.values c.args.faults.now c.gather.new.self.linked.reaches.items) c.core.ensures
+      (subst (λ (vs : List ℕ). AreReaches c.core.result.now vs c.args.faults.now c.gather.new.self.linked.reaches.items) c.values.ensures.values c.in_ok-gather.ensures.reaches));
   size = c.values.ensures.standing.size;
 }

@@ -6,7 +6,6 @@ use Rattle.worker.proofs.rounds.publish_words.Given as goal
 
 abbrev pub invariant-loop-left : goal.invariant-loop-left
 invariant-loop-left g l = record {
-  simulators : l.simulators ≡ l.fn.simulators;
   table : l.share.table ≡ l.fn.share.table;
   few : vec_len l.left ≤ l.share.unspent;
   unspent : l.fn.share.unspent + vec_len l.left ≤ l.share.unspent + vec_len l.fn.patterns;

@@ -1,8 +1,0 @@
-use Rattle.std.proofs.Common.{sym, subst}
-use Rattle.netlist.specs.Conditions.{IsSound}
-use Rattle.transition_frames.proofs.Soundness.{frames_sound}
-use Rattle.transition_frames.proofs.unrolling.frames_named.Goals as goal
-
-pub netlist_of-requires : goal.netlist_of-requires
-netlist_of-requires c =
-    subst IsSound (sym c.in-Ok.ensures) (frames_sound c.args.netlist.now c.sound.ensures c.requires.design c.args.fault c.requires.line)
