@@ -5,7 +5,7 @@ use netlist::{Core, Netlist, NoMemory};
 use std::alloc::Global;
 
 /// A core of the netlist. Where memory is refused, the netlist is let go as a whole.
-pub fn core_with(alloc: Global, netlist: Netlist) -> Result<Core, NoMemory>
+pub(crate) fn core_with(alloc: Global, netlist: Netlist) -> Result<Core, NoMemory>
     ensures { IfOk result (λ core. core ≡ netlist) }
 {
     match Core::of(alloc, netlist) {

@@ -6,7 +6,7 @@ use command_steps::push_count;
 use std::alloc::AllocError;
 
 /// Adds a line of two counts, each behind its words.
-pub fn push_counts(
+pub(crate) fn push_counts(
     text: &mut Vec<u8>,
     first: &[u8],
     many: u64,

@@ -2,7 +2,7 @@
 //! docs/BENCH.md has the format.
 //!
 //! Gives: `read`, `write`, and what a text in another order is written with: `push_ports`, `push_equation`.
-//! Proved: `read` exactly, with every refusal; `write`: the one canonical text; reading it gives an equal netlist.
+//! Proved: `read` exactly, with every refusal; `write`: the one canonical text; reading it gives an equal netlist; `push_ports`, `push_equation`: its lines.
 //! Neither: time.
 #![tactic(auto)]
 

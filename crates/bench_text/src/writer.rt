@@ -23,7 +23,7 @@ fn push_port(out: &mut Vec<u8>, keyword: &[u8], name: &[u8]) -> Result<(), Alloc
     Ok(())
 }
 
-/// Writes `keyword(name)` and LF for each of these inputs or outputs.
+/// Writes `keyword(name)` and LF for each of these inputs or outputs. After want of memory nothing is said of what was written.
 pub fn push_ports(
     out: &mut Vec<u8>,
     netlist: &Netlist,
@@ -64,7 +64,7 @@ fn push_pins(out: &mut Vec<u8>, netlist: &Netlist, pins: &[SignalId]) -> Result<
     Ok(())
 }
 
-/// Writes `name = KIND(a, b)` and LF.
+/// Writes `name = KIND(a, b)` and LF. After want of memory nothing is said of what was written.
 #[tactic(auto, unfolding(statement::specs::Benches::definition_line))]
 pub fn push_equation(
     out: &mut Vec<u8>,
