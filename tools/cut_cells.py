@@ -76,13 +76,10 @@ class Cut:
         for way, label, bit in pins_of(name, cell, self.modules):
             if way != "output":
                 self.read.add(bit)
-            if way == "input" or bit in ("x", "z"):
-                continue
-            if bit in ("0", "1"):
-                raise Refused(f"cell {shown(name)} ({cell['type']}) drives a constant at its pin {shown(label.removeprefix(f'{name}.'))}")
-            self.drivers.setdefault(bit, f"cell {shown(name)} ({cell['type']}), which is cut open")
-            if not name.startswith("$"):
-                self.labels.setdefault(bit, label)
+            if way != "input" and bit not in ("x", "z"):
+                self.drivers.setdefault(bit, f"cell {shown(name)} ({cell['type']}), which is cut open,")
+                if not name.startswith("$"):
+                    self.labels.setdefault(bit, label)
         return True
 
     def seen(self):
