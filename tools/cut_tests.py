@@ -8,9 +8,14 @@ import re
 import shutil
 import subprocess
 import tempfile
+import types
 
 import fault_list
 import make_circuits
+import plain_check
+import plain_design
+import plain_play
+from bridge_tests import ODD, ODD_NAMES, Made, plays_by_ports
 
 ROOT = pathlib.Path(__file__).resolve().parent.parent
 TOOLS = ROOT / "tools"
@@ -375,3 +380,82 @@ def test_cut_library_cells(folder):
     verilog.write_text("module TBUF(input A, input E, output Y); bufif1 (Y, A, E); endmodule\nmodule INV(input A, output Y); assign Y = ~A; endmodule\n")
     prefix, (status, _, errors) = from_verilog(folder, one % "TBUF T (.A(a), .E(e), .Y(t)); INV I (.A(t), .Y(q));", "--cells", verilog)
     assert status == 0 and unknown_of(prefix) == ["t"] and "q = NOT(t)" in lines_of(prefix), errors
+
+
+# The test of a netlist with inputs that the tester can't set, played.
+
+class MadeOpen(Made):
+    """The files of a run of a design some of whose inputs the test doesn't drive: no strobe rests on them. Worked out by the plain player, to
+    which such an input is a cell that reads itself."""
+
+    def __init__(self, folder, text, chains, unknown, names=None):
+        super().__init__(folder, text, chains, names)
+        wrong = self.netlist.inputs
+        whole = plain_design.canonical(self.scanned).decode()
+        for name in unknown:
+            assert name in wrong
+            whole = whole.replace(f"INPUT({name})\n", f"{name} = DFF({name})\n")
+        self.scanned = plain_design.read(whole.encode(), is_design=False)
+        known = [k for k, name in enumerate(self.netlist.inputs) if name not in unknown]
+        items = plain_design.items_of(self.netlist, self.chains, self.patterns())
+        items = [item if item[0] == "call" else (item[0], "".join(item[1][k] for k in known), *item[2:]) for item in items]
+        design = types.SimpleNamespace(**vars(self.netlist) | {"inputs": [self.netlist.inputs[k] for k in known]})
+        self.cycles = list(plain_design.cycles_of(design, self.chains, items))
+        lost = {(cycle, pin) for cycle, pin, _ in plain_play.unmet(self.scanned, self.cycles, None)}
+        items = list(self.masked(items, lost))
+        self.cycles = list(plain_design.cycles_of(design, self.chains, items))
+        self.file("stil").write_bytes(plain_design.stil_text(design, self.chains, {}, items))
+
+    def patterns(self):
+        return plain_check.patterns_of(plain_design.stil_tokens(self.file("stil").read_bytes()), self.netlist, self.chains, {})
+
+    def masked(self, items, lost):
+        """The items with X at the strobes that are lost."""
+        cycle, pins = 0, plain_design.pin_names(self.netlist)
+        for item in items:
+            if item[0] == "call":
+                outs = ["".join("X" if (cycle + t, f"SC__so{c}") in lost else bit for t, bit in enumerate(word)) for c, word in enumerate(item[2])]
+                yield item[0], item[1], outs
+                cycle += len(item[2][0])
+            else:
+                yield item[0], item[1], "".join("X" if (cycle, pin) in lost else bit for pin, bit in zip(pins, item[2]))
+                cycle += 1
+
+
+@needs("iverilog")
+def test_cut_testbench(folder):
+    """Inputs that the test doesn't drive: of the good chip and with each fault every strobe that isn't met is the plain player's."""
+    for text, chains, unknown, names in (((ROOT / "examples/s27.bench").read_bytes(), 1, ["G0"], None), (ODD, 2, ["w[1]", "module"], ODD_NAMES)):
+        made = MadeOpen(folder, text, chains, unknown, names)
+        assert f" unknown {len(unknown)} " in made.verilog_of()
+        made.check_plays()
+        known = next(name for name in made.netlist.inputs if name not in unknown)
+        made.file("stil").write_text(made.file("stil").read_text().replace(f'"{known}"', '"nobody"'))
+        assert ended(TOOLS / "verilog_of", made.prefix)[2] == "verilog_of: stil does not fit\n"
+        for end in ("names", "vvp"):
+            made.file(end).unlink(missing_ok=True)
+
+
+REAL_CELLS = """module TBUF(input A, input E, output Y); assign Y = E ? A : 1'bz; endmodule
+module RAM1(input CK, input A, output reg Q); always @(negedge CK) Q <= %s; endmodule
+module PAD(input O, inout P, output I); assign P = %s; assign I = P ^ O; endmodule
+"""
+
+
+@needs("yosys", "iverilog")
+def test_cut_kept(folder):
+    """The design's own library cells with the cells that were cut in their places: the test passes, whatever these do. It sees a changed gate."""
+    prefix, (status, _, errors) = from_verilog(folder, MAPPED, "--cells", library(folder), name="mapped")
+    assert status == 0, errors
+    made = MadeOpen(folder, prefix.with_suffix(".bench").read_bytes(), 1, unknown_of(prefix))
+    shutil.copy(prefix.with_suffix(".names"), made.file("names"))
+    made.file("scan_cells").write_text("DFF SDFF SI SE\n")
+    said = made.verilog_of("--kept", prefix.with_suffix(".json"), "--scan-cells", made.file("scan_cells"), "--models")
+    assert "module mapped instances 10 cells 1 chains 1 " in said and " unknown 6 clock clk" in said, said
+    text, models = made.file("v").read_text(), made.file("cells.v").read_text()
+    assert len(re.findall(r"^  (?:TBUF|RAM1|PAD|LATCH) ", text, re.M)) == 6 and "inout io" in text, text
+    for cell, passes in (("NAND3", True), ("LOW", False)):
+        for ram, pad in (("A", "O ? 1'b1 : 1'bz"), ("$random", "1'b0"), ("1'bx", "$random")):
+            made.file("v").write_text(text.replace("NAND3 V (\n", f"{cell} V (\n"))
+            made.file("cells.v").write_text(models + REAL_CELLS % (ram, pad) + "module LOW(input A, input B, input C, output Y); assign Y = C & A & B; endmodule\n")
+            assert (plays_by_ports(made) == ["passes"]) == passes, (cell, ram, pad, plays_by_ports(made))
