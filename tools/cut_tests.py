@@ -327,6 +327,7 @@ def test_cut_resets(folder):
 
 MORE_CELLS = """  cell(TBUF) { area : 4; pin(A) { direction : input; } pin(E) { direction : input; }
                pin(Y) { direction : output; function : "A"; three_state : "!E"; } }
+  cell(TPAD) { area : 4; pin(E) { direction : input; } pin(Y) { direction : output; three_state : "!E"; } }
   cell(RAM1) { area : 90; pin(CK) { direction : input; } pin(A) { direction : input; } pin(Q) { direction : output; } }
   cell(PAD) { area : 90; pin(O) { direction : input; } pin(P) { direction : inout; } pin(I) { direction : output; } }
   cell(ICG) { area : 9; latch(IQ, IQN) { enable : "!CK"; data_in : "E"; } pin(CK) { direction : input; } pin(E) { direction : input; }
@@ -369,11 +370,12 @@ def test_cut_library_cells(folder):
     assert status == 0 and "its gates and names are the netlist's: 4 library cells" in said, said + errors
     one = "module one(input clk, input a, input e, output q); wire t; %s endmodule\n"
     for instances, why in (("TBUF T (.A(a), .E(e), .Y(q));", "cell T (TBUF): a module of its own: run `flatten`, or give its source; --cut cuts it open"),
-                           ("LATCH T (.D(a), .G(e), .Q(q));", "cell T (LATCH): a latch; --cut cuts it open")):
+                           ("LATCH T (.D(a), .G(e), .Q(q));", "cell T (LATCH): a latch; --cut cuts it open"),
+                           ("TPAD T (.E(e), .Y(q));", "is not part of the design")):
         source = folder / "one.v"
         source.write_text(one % instances)
         status, _, errors = ended(TOOLS / "bench_from_verilog", source, "--to", folder / "one", "--cells", cells)
-        assert status == 1 and why in errors, errors
+        assert status == 1 and why in errors and "Warning" not in errors, errors
     _, (status, _, errors) = from_verilog(folder, one % "ICG G (.CK(clk), .E(e), .G(t)); DFF F (.CK(t), .D(a), .Q(q));", "--cells", cells)
     assert status == 1 and "cell F (flip-flop): its clock t comes from cell G (ICG), which is cut open" in errors, errors
     verilog = folder / "cells.v"
