@@ -45,7 +45,8 @@ def pins_of(name, cell, modules):
     for pin, bits in cell["connections"].items():
         way = ports.get(pin, {}).get("direction") or cell.get("port_directions", {}).get(pin)
         if way is None:
-            raise Refused(f"cell {shown(name)} ({cell['type']}): nothing says whether its pin {shown(pin)} is an output; give its module, without a body")
+            raise Refused(f"cell {shown(name)} ({cell['type']}): nothing says whether its pin {shown(pin)} is an output; give its module, "
+                          "without a body")
         for label, bit in zip(bit_names(f"{name}.{pin}", {**ports.get(pin, {}), "bits": bits}), bits):
             yield way, label, bit
 
@@ -62,7 +63,8 @@ class Cut:
         self.output_of = {bit: name for name, bit in ports_of(module, "output")[::-1]}
         self.own_names = {bit: name for name, bit in all_names(module) if name not in output_names}
         if self.drivers and not asked:
-            raise Refused(f"{next(iter(self.drivers.values()))} is inout: tristate pins have no .bench; --cut makes inputs of them that the tester can't set")
+            port = next(iter(self.drivers.values()))
+            raise Refused(f"{port} is inout: tristate pins have no .bench; --cut makes inputs of them that the tester can't set")
 
     def hint(self, cell):
         """What is said behind a cell's refusal."""
