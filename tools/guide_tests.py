@@ -227,7 +227,7 @@ def test_library_cells():
                     "sum[1] = XOR(nq, H.t)"} <= set(lines), lines
             status, said, errors = compared(prefix)
             assert status == 0 and "its gates and names are the netlist's: 8 library cells" in said and errors == "", said + errors
-        for instance, why in (("LATCH U (.G(a), .D(b), .Q(y));", "D latches are not supported"), ("NOT_THERE U (.A(a), .Y(y));", "is not part of the design"),
+        for instance, why in (("LATCH U (.G(a), .D(b), .Q(y));", "a latch; --cut cuts it open"), ("NOT_THERE U (.A(a), .Y(y));", "is not part of the design"),
                               ("nand U (y, a, b);", "between library cells"), ("assign y = a & b;", "between library cells"),
                               ("INV U (.A(a), .Y(y), .VDD(b));", "does not have a port named 'VDD'"),
                               ("wire k; BUF C (.A(a), .Y(k)); DFF U (.CK(k), .D(b), .Q(y));", "its clock k is no input of the design"),

@@ -9,6 +9,8 @@ it has more: scan in, and the scan enable (1 shifts). Its other pins are the fli
     # flip-flop   scan cell   scan in   scan enable
     DFF           SDFF        SI        SE
 
+Cells that were cut open (tools/bench_from_yosys --cut) stay too, and the inputs that stood for what they drive are none of the netlist's.
+
 What the cells do, for a simulation without the library's own Verilog, is what Yosys read of them, a multiplexer before a scan cell's data.
 """
 
@@ -19,6 +21,7 @@ import re
 import subprocess
 import tempfile
 
+from cut_cells import is_cut_kind
 from library_cells import Instances
 from run_files import Bad
 from tester_files import CLOCK, read_names
@@ -73,16 +76,18 @@ class KeptChip:
     knows_nets = False
     scan_cell = None
 
-    def __init__(self, design, names, netlist, scan_cells_file):
+    def __init__(self, design, names, netlist, scan_cells_file, unknown):
         self.design, self.names, self.netlist, self.cells_from = design, names, netlist, netlist
         self.scan_file, self.replacements = scan_cells_file, read_scan_cells(scan_cells_file)
         self.cells = scan_cells(design)
         self.pins = [f"SC__o_{name}" if design.kinds[name] == "INPUT" else name for name in design.outputs]
         self.kept = read_names([netlist.with_suffix(".names")]).table
+        self.cut_inputs = set(unknown)
         try:
             self.read_module()
             instances = Instances(self.modules)
-            flip_flops = {name: instances.parts_of(name, cell)[1] for name, cell in self.top["cells"].items() if cell["type"] in instances.modules}
+            flip_flops = {name: instances.parts_of(name, cell)[1] for name, cell in self.top["cells"].items()
+                          if cell["type"] in instances.modules and not is_cut_kind(cell, self.modules)}
             self.find_cells(instances, {name: found for name, found in flip_flops.items() if found})
         except Refused as why:
             raise Bad(f"{netlist}: {why}") from None
@@ -121,14 +126,14 @@ class KeptChip:
     def make_ports(self):
         """The design's ports, and behind them those of the scan enable and the chains: their bits are inputs and outputs in order."""
         real, clock = self.names.of, self.clock()
-        ours = {"input": list(self.design.inputs), "output": list(self.pins)}
+        ours = {"input": [name for name in self.design.inputs if name not in self.cut_inputs], "output": list(self.pins)}
         bits = {way: [bit for port in self.top["ports"].values() if port["direction"] == way for bit in port["bits"] if (way, bit) != ("input", clock)]
                 for way in ours}
         added = {way: names[len(bits[way]):] for way, names in ours.items()}
         if any(len(ours[way]) < len(bits[way]) or not all(name.startswith("SC__s") for name in added[way]) for way in ours):
             raise Bad(f"{self.netlist} has other ports than the scanned netlist: is it the design's?")
         following = {way: iter(names) for way, names in ours.items()}
-        name_of = lambda way, bit: real(CLOCK) if (way, bit) == ("input", clock) else real(next(following[way]))
+        name_of = lambda way, bit: real(CLOCK) if (way, bit) == ("input", clock) else real(next(following[way])) if way in following else None
         ports = [Port(port["direction"], name, [name_of(port["direction"], bit) for bit in port["bits"]]) for name, port in self.top["ports"].items()]
         return ports + [Port(way, real(name), [real(name)]) for way, names in added.items() for name in names]
 

@@ -4,6 +4,8 @@ A fault is put in from outside, by `force`, so that the netlist is the one that 
 the tester drives the stuck bit; at an output it sees it; and for a gate's pin the gate's output is forced to what the gate makes with the
 pin stuck. The data pin of a library's scan cell has no gate before it: behind each capture the cell's outputs are forced to the stuck bit,
 until the clock ticks again. All that names nets within the netlist is left out where NO_FAULTS is defined.
+
+Inputs that the test doesn't drive (run --unknown) are x in each cycle. So no strobe rests on them that is met.
 """
 
 import collections
@@ -29,7 +31,12 @@ def design_outputs(chip):
     return [name for name in chip.design.outputs if not name.startswith("SC__so")]
 
 
-def sites_of(chip):
+def driven_inputs(chip, test):
+    """The inputs in the testbench's order: those that the test drives, then the others."""
+    return test.inputs + [name for name in chip.design.inputs if name not in set(test.inputs)]
+
+
+def sites_of(chip, inputs):
     """The lines of the design (docs/FAULTS.md): each stem, and its branches where it has two readers or more."""
     definitions, outputs = list(original_definitions(chip)), design_outputs(chip)
     readers = collections.defaultdict(list)
@@ -41,7 +48,7 @@ def sites_of(chip):
     signals = [name for name in chip.design.inputs if not name.startswith("SC__")] + [name for name, _, _ in definitions]
     for name in signals:
         is_input = chip.design.kinds[name] == "INPUT"
-        yield Site(f"stem {name}", "input" if is_input else "stem", chip.design.inputs.index(name) if is_input else name)
+        yield Site(f"stem {name}", "input" if is_input else "stem", inputs.index(name) if is_input else name)
         if len(readers[name]) > 1:
             yield from readers[name]
 
@@ -87,14 +94,18 @@ def capture_lines(chip, sites):
         yield f"      {number}: if (captures) begin {held} end else begin {let} end"
 
 
-def joined_ports(chip):
-    """What each port is joined to: the bits of a register or a wire, the most significant one first, and the clock."""
+def joined_ports(chip, inputs):
+    """What each port is joined to: the bits of a register or a wire, the most significant one first, and the clock; nothing where it's no input or
+    output alone."""
     real = chip.names.of
-    nets = {"input": {real(name): f"drive[{k}]" for k, name in enumerate(chip.design.inputs)},
+    nets = {"input": {real(name): f"drive[{k}]" for k, name in enumerate(inputs)},
             "output": {real(pin): f"pins[{k}]" for k, pin in enumerate(chip.pins)}}
     if chip.cells:
         nets["input"][real(CLOCK)] = "clock"
     for port in chip.ports:
+        if port.direction not in nets:
+            yield f"    .{spelled(port.name)}()"
+            continue
         bits = [nets[port.direction][bit] for bit in reversed(port.bits)]
         yield f"    .{spelled(port.name)}({bits[0] if len(bits) == 1 else '{' + ', '.join(bits) + '}'})"
 
@@ -108,7 +119,7 @@ module {bench};
   localparam CYCLES = {cycles}, DRIVES = {drives}, STROBES = {strobes}, LONGEST = {longest};
   reg [0:DRIVES+STROBES] vectors [0:CYCLES]; // a cycle: what is driven, whether the clock ticks, what is strobed
   reg [0:DRIVES+STROBES] vector;
-  reg [0:DRIVES-1] drive;
+  reg [0:{last}] drive;
   reg clock, stuck, made, captures, value, wanted, all, failed;
   wire [0:STROBES-1] pins;
   reg [8*LONGEST:1] fault, name;
@@ -172,7 +183,7 @@ module {bench};
 `endif
     for (t = 0; t < CYCLES && (all || !failed); t = t + 1) begin
       vector = vectors[t];
-      drive = vector[0:DRIVES-1];
+      drive = {drives_of};
       if (driven >= 0) drive[driven] = stuck;
       #40;
       for (k = 0; k < STROBES; k = k + 1) strobe_pin;
@@ -192,11 +203,14 @@ endmodule
 
 def text_of(chip, test, vectors):
     """The testbench of a chip and a test, whose vectors stand in that file."""
-    sites = list(sites_of(chip)) if chip.knows_nets else []
-    scan_enable = chip.design.inputs.index("SC__se") if chip.cells else 0
+    inputs = driven_inputs(chip, test)
+    sites = list(sites_of(chip, inputs)) if chip.knows_nets else []
+    scan_enable = inputs.index("SC__se") if chip.cells else 0
+    unknown = len(inputs) - len(test.inputs)
     return TESTBENCH.format(
         bench=spelled(f"{chip.module}_tb"), module=spelled(chip.module), cycles=len(test.cycles), drives=len(test.inputs),
-        strobes=len(test.outputs), longest=max((len(site.text) for site in sites), default=0) + 3, ports=",\n".join(joined_ports(chip)),
+        strobes=len(test.outputs), longest=max((len(site.text) for site in sites), default=0) + 3, ports=",\n".join(joined_ports(chip, inputs)),
+        last=f"DRIVES+{unknown - 1}" if unknown else "DRIVES-1", drives_of=f"{{vector[0:DRIVES-1], {unknown}'bx}}" if unknown else "vector[0:DRIVES-1]",
         always="\n".join(always_lines(chip, sites)), cases="\n".join(case_lines(chip, sites)),
         enable=scan_enable, captures="\n".join(capture_lines(chip, sites)), vectors=quoted(str(vectors)),
         names="\n".join(f'      {k}: name = "{quoted(name)}";' for k, name in enumerate(chip.pins)))

@@ -6,6 +6,10 @@ from yosys_gates import Refused, shown
 CONSTANTS = ("0", "1", "x", "z")
 
 
+def is_marked(module, attribute):
+    return int(str(module.get("attributes", {}).get(attribute, "0")), 2) != 0
+
+
 def module_of(design, top):
     """The module asked for, else the one that is marked as top, else the only one."""
     modules = design["modules"]
@@ -13,8 +17,8 @@ def module_of(design, top):
         if top not in modules:
             raise Refused(f"there is no module {shown(top)}")
         return top, modules[top]
-    marked = [name for name, module in modules.items() if int(str(module.get("attributes", {}).get("top", "0")), 2)]
-    names = marked or [name for name, module in modules.items() if "blackbox" not in module.get("attributes", {}) and not is_library_cell(module)]
+    marked = [name for name, module in modules.items() if is_marked(module, "top")]
+    names = marked or [name for name, module in modules.items() if not is_marked(module, "blackbox") and not is_library_cell(module)]
     if len(names) != 1:
         raise Refused(f"which module is meant, say by --top: {', '.join(shown(name) for name in names) or 'there is none'}")
     return names[0], modules[names[0]]
@@ -32,8 +36,6 @@ def ports_of(module, direction):
     """Pairs of name and bit, for each bit of each port of a direction."""
     pairs = []
     for name, port in module["ports"].items():
-        if port["direction"] == "inout":
-            raise Refused(f"port {shown(name)} is inout: tristate pins have no .bench")
         if port["direction"] == direction:
             pairs += zip(bit_names(name, port), port["bits"])
     return pairs

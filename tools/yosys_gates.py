@@ -7,11 +7,13 @@ GATES = {"$_BUF_": "BUFF", "$_NOT_": "NOT", "$_AND_": "AND", "$_NAND_": "NAND", 
          "$_XNOR_": "XNOR"}
 FLIP_FLOPS = {"$_DFF_P_": "rising", "$_DFF_N_": "falling"}
 TIES = {"0": "CONST0", "1": "CONST1"}
+LATCH, TRISTATE, MEMORY = r"\$_DLATCH|\$_SR_|\$dlatch|\$adlatch|\$sr$", r"\$_TBUF_|\$tribuf", r"\$mem|\$_MEM"
+CUT_OPEN = f"{LATCH}|{TRISTATE}|{MEMORY}"  # by --cut
 # Why a cell is refused: the first pattern that its type matches decides.
 REFUSED = [
-    (r"\$_DLATCH|\$_SR_|\$dlatch|\$adlatch|\$sr$", "a latch"),
-    (r"\$_TBUF_|\$tribuf", "a tristate driver"),
-    (r"\$mem|\$_MEM", "a memory: run `memory`, which makes flip-flops of it"),
+    (LATCH, "a latch"),
+    (TRISTATE, "a tristate driver"),
+    (MEMORY, "a memory: run `memory`, which makes flip-flops of it"),
     (r"\$_FF_|\$ff$|\$anyinit", "a flip-flop without a clock"),
     (r"\$_(S?DFF|ALDFF)|\$(a|s|al)?dff", "a flip-flop with set, reset or enable, or not yet mapped: run `dfflegalize -cell $_DFF_P_ x`"),
     (r"\$_", "no gate of .bench: run `abc -g AND,NAND,OR,NOR,XOR,XNOR`"),
