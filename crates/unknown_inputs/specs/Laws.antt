@@ -1,5 +1,5 @@
 -- Laws of the opened netlist, each the contract of a function of its name.
-use Rattle.std.specs.Prelude.{ℕ, ◌<◌, Bool, List, length, Option, Some, None}
+use Rattle.std.specs.Prelude.{ℕ, ◌<◌, ◌≤◌, Bool, List, length, Option, Some, None}
 use Rattle.std.specs.List.{All, AllZip}
 use Rattle.statement.specs.declared.kinds.Tri.{Tri}
 use Rattle.statement.specs.declared.lines.Fault.{Fault}
@@ -23,7 +23,7 @@ OpenedIsSound = (n : Netlist) (unknown : Unknowns) → IsSound n → 0 < length 
 
 -- A line of the netlist stands in the opened one.
 abbrev pub OpenedHasLines : Type 0
-OpenedHasLines = (n : Netlist) (unknown : Unknowns) (line : Line) → IsLineOf n line → IsLineOf (opened n unknown) (opened_line n unknown line)
+OpenedHasLines = (n : Netlist) (unknown : Unknowns) (line : Line) → IsSound n → IsLineOf n line → IsLineOf (opened n unknown) (opened_line n unknown line)
 
 -- What three-valued play shows on the opened netlist allows what the netlist shows, whatever the unknown inputs have and from every power-up state.
 abbrev pub OpenedAllows : Type 0
@@ -48,6 +48,6 @@ OpenedTellsTheTruth =
 abbrev pub HeldUnknownIsUntold : Type 0
 HeldUnknownIsUntold =
     (n : Netlist) (unknown : Unknowns) (holds : Holds) (f : Fault) (cycles : List Cycle) (c o : ℕ)
-    → IsSound n → IsUntold n (holds_at_zero unknown holds) f
+    → IsSound n → length unknown ≤ length n.inputs → IsUntold n (holds_at_zero unknown holds) f
     → All (IsCycleOf (opened n unknown)) cycles → All (λ (cycle : Cycle). Obeys (known_part unknown holds) cycle.drive) cycles
     → PassesWhatever n unknown None cycles → ¬ FailsWhateverAt n unknown (Some f) cycles c o

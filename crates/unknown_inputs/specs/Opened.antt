@@ -20,8 +20,12 @@ numbers_of (false ∷ us) next_known next_unknown (x ∷ xs) = next_known ∷ nu
 abbrev pub input_numbers : Netlist → Unknowns → List ℕ
 input_numbers n unknown = numbers_of unknown 0 (length (known_part unknown n.inputs)) n.inputs
 
+-- a number by this list of new ones; a number behind the list stays
+abbrev pub number_by : List ℕ → ℕ → ℕ
+number_by numbers x = slice_index_or numbers x x
+
 abbrev pub opened_number : Netlist → Unknowns → ℕ → ℕ
-opened_number n unknown x = slice_index_or (input_numbers n unknown) x x
+opened_number n unknown = number_by (input_numbers n unknown)
 
 -- ---- lines and faults: a pin keeps its place
 
@@ -30,16 +34,22 @@ line_by number (Stem x) = Stem (number x)
 line_by number (Pin z k) = Pin (number z) k
 line_by number (Out x) = Out (number x)
 
+abbrev pub fault_by : (ℕ → ℕ) → Fault → Fault
+fault_by number f = record { line = line_by number f.line; value = f.value }
+
+abbrev pub fault_or_none_by : (ℕ → ℕ) → Option Fault → Option Fault
+fault_or_none_by number None = None
+fault_or_none_by number (Some f) = Some (fault_by number f)
+
 abbrev pub opened_line : Netlist → Unknowns → Line → Line
-opened_line n unknown line = line_by (opened_number n unknown) line
+opened_line n unknown = line_by (opened_number n unknown)
 
 abbrev pub opened_fault : Netlist → Unknowns → Fault → Fault
-opened_fault n unknown f = record { line = opened_line n unknown f.line; value = f.value }
+opened_fault n unknown = fault_by (opened_number n unknown)
 
 -- of a fault, or of none
 abbrev pub fault_opened : Netlist → Unknowns → Option Fault → Option Fault
-fault_opened n unknown None = None
-fault_opened n unknown (Some f) = Some (opened_fault n unknown f)
+fault_opened n unknown = fault_or_none_by (opened_number n unknown)
 
 -- ---- the netlist
 

@@ -1,0 +1,6 @@
+pub mod Parts
+pub mod Numbers
+pub mod Moved
+pub mod Above
+pub mod Tells
+pub mod Soundness
