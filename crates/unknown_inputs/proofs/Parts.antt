@@ -100,9 +100,9 @@ same_hold x y e = cc
 -- where the known bits obey the holds, the list with 0 at the unknown inputs does, held there too
 pub merged_obeys : (us : Unknowns) (holds : Holds) (xs : List ℕ) (bs : List Bool) → length us ≤ length xs → length bs ≡ length (known_part us xs)
     → Obeys (known_part us holds) bs → Obeys (holds_at_zero us holds) (merged false us xs bs)
-merged_obeys [] holds xs bs l e h = h
-merged_obeys (u ∷ us) [] xs bs l e h = λ k b g. cc
-merged_obeys (u ∷ us) (o ∷ os) [] bs l e h = absurd (omega (arith, l))
+merged_obeys [] holds xs bs l e h k b g = h k b g
+merged_obeys (u ∷ us) [] xs bs l e h k b g = cc
+merged_obeys (u ∷ us) (o ∷ os) [] bs l e h k b g = absurd (omega (arith, l))
 merged_obeys (true ∷ us) (o ∷ os) (x ∷ xs) bs l e h zero b g = same_hold (Some false) (Some b) g
 merged_obeys (true ∷ us) (o ∷ os) (x ∷ xs) bs l e h (suc k) b g = merged_obeys us os xs bs (omega (arith, l)) e h k b g
 merged_obeys (false ∷ us) (o ∷ os) (x ∷ xs) [] l e h k b g = absurd (omega (arith, e))
