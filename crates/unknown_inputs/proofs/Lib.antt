@@ -3,4 +3,4 @@ pub mod Numbers
 pub mod Moved
 pub mod Above
 pub mod Tells
-
+pub mod Soundness

@@ -64,7 +64,7 @@ abbrev pub opened : Netlist → Unknowns → Netlist
 opened n unknown =
     let number = opened_number n unknown in
     record {
-      names = map (name_of n) (known_part unknown n.inputs ++ unknown_part unknown n.inputs) ++ map (λ (d : Definition). name_of n d.id) n.definitions;
+      names = map (name_of n) (known_part unknown n.inputs) ++ map (name_of n) (unknown_part unknown n.inputs) ++ map (λ (d : Definition). name_of n d.id) n.definitions;
       inputs = map number (known_part unknown n.inputs);
       outputs = map number n.outputs;
       definitions = map reads_itself (map number (unknown_part unknown n.inputs)) ++ map (definition_by number) n.definitions;
