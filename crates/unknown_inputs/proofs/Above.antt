@@ -25,7 +25,7 @@ use Rattle.scan_play.proofs.RunLaws.{xs_allow}
 use Rattle.unknown_inputs.specs.Unknowns.{Unknowns, known_part, unknown_part, IsFilled}
 use Rattle.unknown_inputs.specs.Opened.{line_by, fault_by, fault_or_none_by, opened_number, fault_opened, reads_itself, definition_by, opened}
 use Rattle.unknown_inputs.specs.Laws.{OpenedAllows}
-use Rattle.unknown_inputs.proofs.Parts.{unknown_member, merged, zip_merged, merged_allowed}
+use Rattle.unknown_inputs.proofs.KnownParts.{unknown_member, merged, zip_merged, merged_allowed}
 use Rattle.unknown_inputs.proofs.Numbers.{opened_one_to_one}
 use Rattle.unknown_inputs.proofs.Moved.{cells_by, gates_by, same_line, sources_by, cells_settle, themselves_settle, gates_settle, outs_by, next_by}
 

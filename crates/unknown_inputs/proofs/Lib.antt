@@ -1,6 +1,7 @@
-pub mod Parts
+pub mod KnownParts
 pub mod Numbers
 pub mod Moved
 pub mod Above
 pub mod Tells
 pub mod Soundness
+pub mod Making

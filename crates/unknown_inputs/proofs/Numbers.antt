@@ -11,7 +11,7 @@ use Rattle.netlist.specs.Conditions.{IsNumbered}
 use Rattle.netlist.proofs.Orders.{definition_high}
 use Rattle.unknown_inputs.specs.Unknowns.{Unknowns, known_part, unknown_part}
 use Rattle.unknown_inputs.specs.Opened.{numbers_of, input_numbers, opened_number}
-use Rattle.unknown_inputs.proofs.Parts.{parts_length, known_part-map, unknown_part-map}
+use Rattle.unknown_inputs.proofs.KnownParts.{parts_length, known_part-map, unknown_part-map}
 
 -- ---- the list of new numbers
 

@@ -23,7 +23,7 @@ use Rattle.scan_insert.proofs.Soundness.{pairs_map}
 use Rattle.unknown_inputs.specs.Unknowns.{Unknowns, known_part, unknown_part}
 use Rattle.unknown_inputs.specs.Opened.{opened_number, opened_line, reads_itself, definition_by, opened}
 use Rattle.unknown_inputs.specs.Laws.{OpenedIsSound, OpenedHasLines}
-use Rattle.unknown_inputs.proofs.Parts.{parts_length, known_member, unknown_member}
+use Rattle.unknown_inputs.proofs.KnownParts.{parts_length, known_member, unknown_member}
 use Rattle.unknown_inputs.proofs.Numbers.{opened_one_to_one, number_past, number_low, input_is, known_renumbered, unknown_renumbered, definition_stays}
 use Rattle.unknown_inputs.proofs.Moved.{gates_by}
 

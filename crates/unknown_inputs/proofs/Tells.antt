@@ -21,7 +21,7 @@ use Rattle.scan_play.proofs.TriLaws.{value_where_strobed}
 use Rattle.unknown_inputs.specs.Unknowns.{Unknowns, known_part, IsFilled, PassesWhatever, FailsWhateverAt, holds_at_zero, IsUntold}
 use Rattle.unknown_inputs.specs.Opened.{opened_number, fault_opened, opened}
 use Rattle.unknown_inputs.specs.Laws.{OpenedTells, OpenedTellsTheTruth, HeldUnknownIsUntold}
-use Rattle.unknown_inputs.proofs.Parts.{merged, length-merged, known_part-merged, merged_obeys}
+use Rattle.unknown_inputs.proofs.KnownParts.{merged, length-merged, known_part-merged, merged_obeys}
 use Rattle.unknown_inputs.proofs.Above.{opened_allows}
 
 same_value : {V : Type 0} (x y : V) → Some x ≡ Some y → x ≡ y
