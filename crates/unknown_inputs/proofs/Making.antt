@@ -1,5 +1,5 @@
 -- Steps of the loops that make the opened netlist.
-use Rattle.std.proofs.Common.{◌≡◌, ℕ, ◌+◌, ◌<◌, ◌≤◌, Bool, true, false, not, cond, ltb, List, [], ◌∷◌, ◌++◌, map, length, get_or, drop, refl, sym, ◌∙◌, ap, subst, inl, inr, arith}
+use Rattle.std.proofs.Common.{◌≡◌, ℕ, suc, ◌+◌, ◌<◌, ◌≤◌, Bool, true, false, not, cond, ltb, List, [], ◌∷◌, ◌++◌, map, length, get_or, drop, refl, sym, ◌∙◌, ap, subst, inl, inr, arith}
 use Rattle.std.specs.List.{All, Contains}
 use Rattle.std.proofs.lemmas.Bool.{cases_lt, lt-ltb}
 use Rattle.std.proofs.lemmas.List.{drop_more, drop_all, get_or_past, get_or_default, append_assoc}
@@ -60,22 +60,19 @@ unknown_more us xs k x b now new all l is be h e =
 
 -- ---- all inputs done
 
+known_part-nil : {V : Type 0} (us : Unknowns) → known_part {V} us [] ≡ []
+known_part-nil [] = refl
+known_part-nil (u ∷ us) = refl
+
+unknown_part-nil : {V : Type 0} (us : Unknowns) → unknown_part {V} us [] ≡ []
+unknown_part-nil [] = refl
+unknown_part-nil (u ∷ us) = refl
+
 pub known_none : {V : Type 0} (us : Unknowns) (xs : List V) (k : ℕ) → length xs ≤ k → known_part us (drop k xs) ≡ []
-known_none us xs k l = ap (known_part us) (drop_all k xs l) ∙ none us
-  where
-    none : (us : Unknowns) → known_part us [] ≡ []
-    none [] = refl
-    none (u ∷ us) = refl
+known_none us xs k l = ap (known_part us) (drop_all k xs l) ∙ known_part-nil us
 
 pub unknown_none : {V : Type 0} (us : Unknowns) (xs : List V) (k : ℕ) → length xs ≤ k → unknown_part us (drop k xs) ≡ []
-unknown_none us xs k l = ap (unknown_part us) (drop_all k xs l) ∙ none us
-  where
-    none : (us : Unknowns) → unknown_part us [] ≡ []
-    none [] = refl
-    none (u ∷ us) = refl
-
-pub numbers_none : {V : Type 0} (us : Unknowns) (a b : ℕ) (xs : List V) (k : ℕ) → length xs ≤ k → numbers_of us a b (drop k xs) ≡ []
-numbers_none us a b xs k l = ap (numbers_of us a b) (drop_all k xs l)
+unknown_none us xs k l = ap (unknown_part us) (drop_all k xs l) ∙ unknown_part-nil us
 
 -- ---- whether an input is known
 
@@ -87,9 +84,15 @@ skipped us xs k d all l e h =
 pub found : {V : Type 0} (us : Unknowns) (xs : List V) (k : ℕ) (d : V) (all : List V) → k < length xs → get_or us k false ≡ false
     → known_part (drop k us) (drop k xs) ≡ all → true ≡ ltb 0 (length all)
 found us xs k d all l e h =
-    let is : get_or xs k d ∷ known_part (drop (k + 1) us) (drop (k + 1) xs) ≡ all =
+    let rest = known_part (drop (k + 1) us) (drop (k + 1) xs) in
+    let is : get_or xs k d ∷ rest ≡ all =
     sym (at_input known_part (λ y ys. refl) us xs k d l ∙ ap (λ b. known_part (b ∷ drop (k + 1) us) (get_or xs k d ∷ drop (k + 1) xs)) e) ∙ h in
-    ap (λ ys. ltb 0 (length ys)) is
+    let count : suc (length rest) ≡ length all = ap length is in
+    sym (lt-ltb 0 (length all) (omega arith))
+
+pub none_found : {V : Type 0} (us : Unknowns) (xs : List V) (k : ℕ) (all : List V) → length xs ≤ k
+    → known_part (drop k us) (drop k xs) ≡ all → false ≡ ltb 0 (length all)
+none_found us xs k all l h = ap (λ ys. ltb 0 (length ys)) (sym (known_none (drop k us) xs k l) ∙ h)
 
 -- ---- one number more
 
