@@ -60,11 +60,11 @@ unknown_more us xs k x b now new all l is be h e =
 
 -- ---- all inputs done
 
-known_part-nil : {V : Type 0} (us : Unknowns) → known_part {V} us [] ≡ []
+known_part-nil : {V : Type 0} (us : Unknowns) → known_part {V = V} us [] ≡ []
 known_part-nil [] = refl
 known_part-nil (u ∷ us) = refl
 
-unknown_part-nil : {V : Type 0} (us : Unknowns) → unknown_part {V} us [] ≡ []
+unknown_part-nil : {V : Type 0} (us : Unknowns) → unknown_part {V = V} us [] ≡ []
 unknown_part-nil [] = refl
 unknown_part-nil (u ∷ us) = refl
 
