@@ -133,9 +133,11 @@ module _ (n : Netlist) (sound : IsSound n) (unknown : Unknowns) where
   unknown_below xs e = subst (λ (ys : List ℕ). All (λ x. x < length (signals n)) ys) (sym e)
       (All-from_contains (λ x. x < length (signals n)) (unknown_part unknown n.inputs) (λ x c. input_below x (unknown_member unknown n.inputs x c)))
 
-  pub known_few : length (known_part unknown n.inputs) + length n.inputs ≤ 16000000
-  known_few =
+  pub known_few : (inputs known : List ℕ) → inputs ≡ n.inputs → known ≡ known_part unknown inputs → length known + length inputs ≤ 16000000
+  known_few inputs known e is =
       let small = sound.sized.small in
       let size = signals_length n in
-      let both = parts_length unknown n.inputs in
+      let both = parts_length unknown inputs in
+      let same : length inputs ≡ length n.inputs = ap length e in
+      let count : length known ≡ length (known_part unknown inputs) = ap length is in
       omega arith

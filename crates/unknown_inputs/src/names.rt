@@ -18,13 +18,13 @@ fn push_name(netlist: &Netlist, signal: SignalId, names: &mut NameTable) -> Resu
 /// Adds the names of these signals.
 fn push_names(
     netlist: &Netlist,
-    signals: &[SignalId],
+    ids: &[SignalId],
     names: &mut NameTable,
 ) -> Result<(), AllocError>
-    requires { All (λ x. x < length (signals netlist.now)) signals.now }
-    ensures { OnOk result (names.new ≡ names.old ++ map (name_of netlist.now) signals.now) }
+    requires { All (λ x. x < length (signals netlist.now)) ids.now }
+    ensures { OnOk result (names.new ≡ names.old ++ map (name_of netlist.now) ids.now) }
 {
-    for x in signals {
+    for x in ids {
         push_name(netlist, *x, names)?;
     }
     Ok(())
