@@ -5,7 +5,6 @@
 //! Proved: `open` and the getters of `Opened` exactly; the laws: the opened netlist is sound, and a line of the netlist stands in it; what three-valued play
 //! shows there allows what the netlist shows whatever the unknown inputs have; so what the player answers there holds of the netlist; a fault that nothing
 //! tells while the unknown inputs have 0 fails no test of known bits that the good netlist passes.
-//! Tested: run by the commands that take `--unknown`.
 //! Neither: time.
 #![tactic(auto)]
 
