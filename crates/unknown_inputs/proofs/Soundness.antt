@@ -22,8 +22,8 @@ use Rattle.scan_insert.proofs.Numbers.{length-numbers_from, numbers_from-append,
 use Rattle.scan_insert.proofs.Soundness.{pairs_map}
 use Rattle.unknown_inputs.specs.Unknowns.{Unknowns, known_part, unknown_part}
 use Rattle.unknown_inputs.specs.Opened.{opened_number, opened_line, reads_itself, definition_by, opened}
-use Rattle.unknown_inputs.specs.Laws.{OpenedIsSound, OpenedHasLines}
-use Rattle.unknown_inputs.proofs.KnownParts.{parts_length, known_member, unknown_member}
+use Rattle.unknown_inputs.specs.Laws.{OpenedIsSound, OpenedHasLines, KeepsNames}
+use Rattle.unknown_inputs.proofs.KnownParts.{parts_length, known_part-map, known_member, unknown_member}
 use Rattle.unknown_inputs.proofs.Numbers.{opened_one_to_one, number_past, number_low, input_is, known_renumbered, unknown_renumbered, definition_stays}
 use Rattle.unknown_inputs.proofs.Moved.{gates_by}
 
@@ -284,6 +284,38 @@ module _ (n : Netlist) (unknown : Unknowns) (sound : IsSound n) where
         closed = opened_closed n unknown sound.formed.numbered sound.closed;
         acyclic = opened_acyclic n unknown sound.acyclic;
       }
+
+  -- at its new number stands the signal itself
+  order_at : (x : ℕ) → Contains (signals n) x → get_or order (opened_number n unknown x) 0 ≡ x
+  order_at x c =
+      let r = opened_number n unknown in
+      let low = signal_below n sound.formed.numbered (r x) (signal_moves n unknown sound.formed.numbered x c) in
+      let size : length order ≡ length (signals n) = sym (length-map order r) ∙ ap length order_renumbered in
+      opened_one_to_one n unknown (get_or order (r x) 0) x
+      (sym (get_or-map r order (r x) 0 0 (omega arith)) ∙ (ap (λ (xs : List ℕ). get_or xs (r x) 0) order_renumbered ∙ sound.formed.numbered (r x) low))
+
+  name_moves : (x : ℕ) → Contains (signals n) x → name_of (opened n unknown) (opened_number n unknown x) ≡ name_of n x
+  name_moves x c =
+      let r = opened_number n unknown in
+      let low = signal_below n sound.formed.numbered (r x) (signal_moves n unknown sound.formed.numbered x c) in
+      let size : length order ≡ length (signals n) = sym (length-map order r) ∙ ap length order_renumbered in
+      ap (λ (xs : List (List ℕ)). get_or xs (r x) []) names_in_order
+      ∙ (get_or-map (name_of n) order (r x) 0 [] (omega arith) ∙ ap (name_of n) (order_at x c))
+
+  names_move : (xs : List ℕ) → ((x : ℕ) → Contains xs x → Contains (signals n) x) → map (name_of (opened n unknown)) (map (opened_number n unknown) xs) ≡ map (name_of n) xs
+  names_move xs h =
+      map_map (opened_number n unknown) (name_of (opened n unknown)) xs
+      ∙ map_agree (λ x. name_of (opened n unknown) (opened_number n unknown x)) (name_of n) xs
+      (All-from_contains (λ x. name_of (opened n unknown) (opened_number n unknown x) ≡ name_of n x) xs (λ x c. name_moves x (h x c)))
+
+  pub keeps_names : KeepsNames n unknown
+  keeps_names = record {
+    signals = name_moves;
+    inputs = names_move (known_part unknown n.inputs)
+        (λ x c. Contains-append_left n.inputs (map (λ (d : Definition). d.id) n.definitions) x (known_member unknown n.inputs x c))
+        ∙ sym (known_part-map (name_of n) unknown n.inputs);
+    outputs = names_move n.outputs (λ x c. All-contains (Contains (signals n)) n.outputs x sound.closed.outputs c);
+  }
 
 pub opened_is_sound : OpenedIsSound
 opened_is_sound n unknown sound some = opened_sound n unknown sound some

@@ -1,10 +1,10 @@
 -- Laws of the opened netlist, each the contract of a function of its name.
-use Rattle.std.specs.Prelude.{ℕ, ◌<◌, ◌≤◌, Bool, List, length, Option, Some, None}
-use Rattle.std.specs.List.{All, AllZip}
+use Rattle.std.specs.Prelude.{ℕ, ◌≡◌, ◌<◌, ◌≤◌, Bool, List, map, length, Option, Some, None}
+use Rattle.std.specs.List.{All, AllZip, Contains}
 use Rattle.statement.specs.declared.kinds.Tri.{Tri}
 use Rattle.statement.specs.declared.lines.Fault.{Fault}
 use Rattle.statement.specs.declared.lines.Line.{Line}
-use Rattle.statement.specs.Netlists.{Netlist}
+use Rattle.statement.specs.Netlists.{Netlist, signals, name_of}
 use Rattle.statement.specs.Patterns.{Holds, Obeys}
 use Rattle.statement.specs.Values.{bit_table}
 use Rattle.statement.specs.Runs.{Cycle, Runs}
@@ -15,7 +15,7 @@ use Rattle.scan_play.specs.Cycles.{IsCycleOf}
 use Rattle.scan_play.specs.Playing.{PlayRuns, PlaysAs}
 use Rattle.scan_play.specs.declared.played.Played.TheVariants.{Passes, Fails}
 use Rattle.unknown_inputs.specs.Unknowns.{Unknowns, known_part, IsFilled, PassesWhatever, FailsWhateverAt, holds_at_zero, IsUntold}
-use Rattle.unknown_inputs.specs.Opened.{opened, opened_line, fault_opened}
+use Rattle.unknown_inputs.specs.Opened.{opened, opened_number, opened_line, fault_opened}
 
 -- The opened netlist meets every condition of a netlist, if an input is known.
 abbrev pub OpenedIsSound : Type 0
@@ -24,6 +24,15 @@ OpenedIsSound = (n : Netlist) (unknown : Unknowns) → IsSound n → 0 < length 
 -- A line of the netlist stands in the opened one.
 abbrev pub OpenedHasLines : Type 0
 OpenedHasLines = (n : Netlist) (unknown : Unknowns) (line : Line) → IsSound n → IsLineOf n line → IsLineOf (opened n unknown) (opened_line n unknown line)
+
+-- Names move along with their signals: so the pins are those of the netlist, but for the unknown inputs.
+pub record KeepsNames (n : Netlist) (unknown : Unknowns) : Type 0 where
+  pub signals : (x : ℕ) → Contains (signals n) x → name_of (opened n unknown) (opened_number n unknown x) ≡ name_of n x
+  pub inputs : map (name_of (opened n unknown)) (opened n unknown).inputs ≡ known_part unknown (map (name_of n) n.inputs)
+  pub outputs : map (name_of (opened n unknown)) (opened n unknown).outputs ≡ map (name_of n) n.outputs
+
+abbrev pub OpenedKeepsNames : Type 0
+OpenedKeepsNames = (n : Netlist) (unknown : Unknowns) → IsSound n → KeepsNames n unknown
 
 -- What three-valued play shows on the opened netlist allows what the netlist shows, whatever the unknown inputs have and from every power-up state.
 abbrev pub OpenedAllows : Type 0

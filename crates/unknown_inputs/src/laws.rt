@@ -1,5 +1,5 @@
 //! What the opened netlist promises, as laws over the definitions.
-ghost use Rattle.unknown_inputs.specs.Laws.{OpenedIsSound, OpenedHasLines, OpenedAllows, OpenedTellsTheTruth, HeldUnknownIsUntold};
+ghost use Rattle.unknown_inputs.specs.Laws.{OpenedIsSound, OpenedHasLines, OpenedKeepsNames, OpenedAllows, OpenedTellsTheTruth, HeldUnknownIsUntold};
 
 /// The opened netlist meets every condition of a netlist.
 pub fn opened_is_sound()
@@ -9,6 +9,11 @@ pub fn opened_is_sound()
 /// A line of the netlist stands in the opened one.
 pub fn opened_has_lines()
     ensures { OpenedHasLines }
+{}
+
+/// Names move along with their signals.
+pub fn opened_keeps_names()
+    ensures { OpenedKeepsNames }
 {}
 
 /// What three-valued play shows on the opened netlist allows what the netlist shows, whatever the unknown inputs have.

@@ -16,11 +16,7 @@ fn push_name(netlist: &Netlist, signal: SignalId, names: &mut NameTable) -> Resu
 }
 
 /// Adds the names of these signals.
-fn push_names(
-    netlist: &Netlist,
-    ids: &[SignalId],
-    names: &mut NameTable,
-) -> Result<(), AllocError>
+fn push_names(netlist: &Netlist, ids: &[SignalId], names: &mut NameTable) -> Result<(), AllocError>
     requires { All (λ x. x < length (signals netlist.now)) ids.now }
     ensures { OnOk result (names.new ≡ names.old ++ map (name_of netlist.now) ids.now) }
 {
