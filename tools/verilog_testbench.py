@@ -5,7 +5,7 @@ the tester drives the stuck bit; at an output it sees it; and for a gate's pin t
 pin stuck. The data pin of a library's scan cell has no gate before it: behind each capture the cell's outputs are forced to the stuck bit,
 until the clock ticks again. All that names nets within the netlist is left out where NO_FAULTS is defined.
 
-Inputs that the test doesn't drive (run --unknown) are x in each cycle. So no strobe rests on them that is met.
+Inputs that the test doesn't drive are x in each cycle. So no strobe rests on them that is met.
 """
 
 import collections
