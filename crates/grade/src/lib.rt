@@ -4,8 +4,8 @@
 //!
 //! Gives: `Grade`, `GradedDesign`, `grades`, `grades_of`.
 //! Proved: `grades`: of each stuck line exactly whether the other bit is known to be shown at some strobe, and where first, or each strobe is known to be
-//! met, or neither; `grades_of`: the same of any faults of any netlist; the laws: what is detected fails from every power-up state, and what is undetected passes from every one; the grade by patterns is
-//! that of the run in three values; on a run's own test the grades agree with its report.
+//! met, or neither; `grades_of`: the same of any faults of any netlist; the laws: what is detected fails from every power-up state, and what is undetected
+//! passes from every one; the grade by patterns is that of the run in three values; on a run's own test the grades agree with its report.
 //! Tested: that it comes to these answers, by rows of `cases`, worked out by a plain program.
 //! Neither: what passes the stage; time.
 #![tactic(auto)]
