@@ -1,0 +1,5 @@
+pub mod Unknowns
+pub mod Known
+pub mod Masked
+pub mod Laws
+pub mod inner
