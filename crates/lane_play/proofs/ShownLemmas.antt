@@ -82,7 +82,7 @@ judged_told at c o zero (s ∷ ss) (v ∷ vs) e =
 judged_told at c o (suc k) (s ∷ ss) (v ∷ vs) e =
     ap (λ x. played_or_else x (judged_in (only at) c (o + 1) ss vs)) (other_none at c o s v (λ h. omega (arith, h, e))) ∙ judged_told at c (o + 1) k ss vs (omega (arith, e))
 
-strobed_long : (ss vs : List Tri) → length (strobed_row ss vs) ≡ length ss
+pub strobed_long : (ss vs : List Tri) → length (strobed_row ss vs) ≡ length ss
 strobed_long [] vs = refl
 strobed_long (s ∷ ss) [] = ap suc (strobed_long ss [])
 strobed_long (s ∷ ss) (v ∷ vs) = ap suc (strobed_long ss vs)

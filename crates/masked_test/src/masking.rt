@@ -14,7 +14,7 @@ ghost use Rattle.masked_test.specs.inner.Items.{call_words, driven_count, item_s
 
 use crate::copying::{copied_chains, push_first};
 use crate::knowing::known_file;
-use crate::words::{Room, behind_rows, push_columns, push_row};
+use crate::words::{Room, behind, behind_rows, push_columns, push_row};
 use lane_play::shown_where_strobed;
 use netlist::{Core, NoMemory, Tri};
 use std::alloc::{AllocError, Global};
@@ -64,7 +64,7 @@ fn push_call(
     ensures { OnOk result (items.new ≡ items.old ++ Call (call_words file.now width (words_of (item_at file.now.items place)) rows.now) ∷ []) }
 {
     let chains = file.chains().len();
-    let own = behind_rows(rows, 1, file.po().len());
+    let own = behind(rows, file.po().len());
     room.words.clear();
     push_first(&mut room.words, file.items(), place, chains)?;
     push_columns(room, file.items(), place, chains, own, width)?;

@@ -76,7 +76,7 @@ fn first_of(rows: &[Tri]) -> Tri
 }
 
 /// What lies behind so many values.
-fn behind(rows: &[Tri], count: usize) -> &[Tri]
+pub(crate) fn behind(rows: &[Tri], count: usize) -> &[Tri]
     ensures { result.now ≡ drop count rows.now }
 {
     let start = count.min(rows.len());
