@@ -8,6 +8,7 @@ use Rattle.statement.specs.declared.kinds.Tri.TheVariants.{X}
 use Rattle.statement.specs.Stils.{Item, StilFile, Vector}
 use Rattle.stil_write.specs.StilFiles.{item_at}
 use Rattle.masked_test.specs.Unknowns.{Unknowns, known_part}
+use Rattle.masked_test.specs.Known.{known_words}
 use Rattle.masked_test.specs.inner.Words.{known_one, met_char, met_column, met_columns, met_words}
 use Rattle.masked_test.specs.inner.Items.{item_size, met_item, met_items}
 use Rattle.masked_test.proofs.KnownLemmas.{known_more}
@@ -121,3 +122,23 @@ met_more f width items k rows later old new all l n e h =
 
 pub met_done : (f : StilFile) (width : ℕ) (items : List Item) (k : ℕ) (rows : List Tri) (old all : List Item) → length items ≤ k → old ++ met_items f width (drop k items) rows ≡ all → old ≡ all
 met_done f width items k rows old all l h = ended old (met_items f width (drop k items) rows) all (ap (λ is. met_items f width is rows) (drop_all k items l)) h
+
+-- ---- names of cells
+
+pub copied_more : (chains : List (List Text)) (i : ℕ) (chain copy : List Text) (old new : List (List Text)) → i < length chains → chain ≡ get_or chains i chain → copy ≡ chain → old ≡ take i chains
+    → new ≡ old ++ copy ∷ [] → new ≡ take (i + 1) chains
+copied_more chains i chain copy old new l is same e n =
+    n ∙ (ap (λ cs. cs ++ copy ∷ []) e ∙ (ap (λ x. take i chains ++ x ∷ []) (same ∙ is) ∙ sym (take_more chains i chain l)))
+
+-- ---- a vector without what drives the unknown inputs
+
+pub known_nothing : (us : Unknowns) (words : List Text) → length words ≡ 0 → [] ≡ known_words us words
+known_nothing us [] e = refl
+known_nothing us (word ∷ words) e = absurd (omega (arith, e))
+
+pub known_vector : (us : Unknowns) (words : List Text) (first own : Text) (blank mid all : List Text) → slice_get words 0 ≡ Some first → own ≡ known_part us first → blank ≡ []
+    → mid ≡ blank ++ own ∷ [] → all ≡ mid ++ drop 1 words → all ≡ known_words us words
+known_vector us [] first own blank mid all h is b m a = cc
+known_vector us (word ∷ words) first own blank mid all h is b m a =
+    let same : word ≡ first = cc in
+    a ∙ (ap (λ ws. ws ++ words) (m ∙ ap (λ ws. ws ++ own ∷ []) b) ∙ ap (λ w. w ∷ words) (is ∙ ap (known_part us) (sym same)))

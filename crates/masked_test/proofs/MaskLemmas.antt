@@ -132,7 +132,7 @@ module _ (f : StilFile) (width : ℕ) (rows : List Tri) where
   met_is_masked n e h fit s =
       let items = met_items f width f.items rows in
       let wide : All (λ (c : Cycle). length c.strobe ≡ width) (vectors_in f) =
-      All-weaker (IsCycleOf n) (λ (c : Cycle). length c.strobe ≡ width) (vectors_in f) (λ c own. own.strobe ∙ sym e) fit in
+      All-weaker (IsCycleOf n) (λ (c : Cycle). length c.strobe ≡ width) (λ c own. own.strobe ∙ sym e) (vectors_in f) fit in
       record {
         shown = s.shown;
         runs = s.runs;
