@@ -1,6 +1,7 @@
 mod KnownLemmas
 mod KnownCycles
 mod KnownFiles
+mod KnownFitting
 mod MetLemmas
 mod WordLemmas
 mod ItemLemmas

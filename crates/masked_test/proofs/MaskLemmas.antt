@@ -16,7 +16,8 @@ use Rattle.scan_play.specs.Cycles.{IsCycleOf}
 use Rattle.scan_play.specs.Playing.{IsStrobeMet, PlaysAs}
 use Rattle.scan_play.specs.declared.played.Played.TheVariants.{Passes}
 use Rattle.stil_write.specs.StilFiles.{IsItem, IsStilFile}
-use Rattle.stil_vectors.specs.Fitting.{FitsNetlist}
+use Rattle.masked_test.specs.Unknowns.{Unknowns}
+use Rattle.masked_test.specs.Known.{FitsKnown}
 use Rattle.masked_test.specs.Laws.{FitsAlike, MaskedFits, MaskedPasses}
 use Rattle.masked_test.specs.Masked.{IsMasked, met, met_cycle, met_cycles, met_row}
 use Rattle.masked_test.specs.inner.Items.{met_items, with_items}
@@ -80,8 +81,8 @@ cycles_fit m (c ∷ cs) [] fit =
 cycles_fit m (c ∷ cs) (row ∷ rows) fit =
     All-cons (IsCycleOf m) (met_cycle c row) (met_cycles cs rows) (cycle_fits m c row (All-head (IsCycleOf m) c cs fit)) (cycles_fit m cs rows (All-tail (IsCycleOf m) c cs fit))
 
-names_fit : (n m : Netlist) (file masked : StilFile) → IsMasked n file masked → FitsNetlist file m → FitsNetlist masked m
-names_fit n m file masked h fit = record {
+names_fit : (n m : Netlist) (file masked : StilFile) (us : Unknowns) → IsMasked n file masked → FitsKnown file m us → FitsKnown masked m us
+names_fit n m file masked us h fit = record {
   inputs = ap (λ (names : List Text). names ++ scan_inputs masked) h.pi
       ∙ (ap (λ (chains : List (List Text)). file.pi ++ numbered (codes "SC__si") (length chains)) h.chains ∙ fit.inputs);
   outputs = ap (λ (names : List Text). names ++ scan_outputs masked) h.po
@@ -92,7 +93,7 @@ names_fit n m file masked h fit = record {
 pub masked_fits : MaskedFits
 masked_fits n m file masked h = record {
   cycles = λ fit. subst (λ (cs : List Cycle). All (IsCycleOf m) cs) (sym h.vectors) (cycles_fit m (vectors_in file) h.shown fit);
-  names = λ fit. names_fit n m file masked h fit;
+  names = λ us fit. names_fit n m file masked us h fit;
 }
 
 -- ---- the file

@@ -86,13 +86,13 @@ flat_met width (c ∷ cs) (row ∷ rows) h =
     ∙ ap (λ (cs' : List Cycle). met_cycle c row ∷ cs')
     (ap (met_flat width cs) (drop_at own rest width (strobed_long c.strobe row ∙ wide)) ∙ flat_met width cs rows (All-tail (λ (x : Cycle). length x.strobe ≡ width) c cs h))
 
-pub flat-append : (width : ℕ) (as bs : List Cycle) (rows : List Tri) → met_flat width (as ++ bs) rows ≡ met_flat width as rows ++ met_flat width bs (drop (length as * width) rows)
-flat-append width [] bs rows = ap (λ k. met_flat width bs (drop k rows)) (sym (zero-mul width))
-flat-append width (a ∷ as) bs rows =
-    let more : width + length as * width ≡ suc (length as) * width = (let e = suc-mul (length as) width in omega (arith, e)) in
-    ap (λ (cs : List Cycle). met_cycle a rows ∷ cs)
-    (flat-append width as bs (drop width rows)
-    ∙ ap (λ (vs : List Tri). met_flat width as (drop width rows) ++ met_flat width bs vs) (drop-drop (length as * width) width rows ∙ ap (λ k. drop k rows) more))
+pub flat-append : (width : ℕ) (cs ds : List Cycle) (rows : List Tri) → met_flat width (cs ++ ds) rows ≡ met_flat width cs rows ++ met_flat width ds (drop (length cs * width) rows)
+flat-append width [] ds rows = ap (λ k. met_flat width ds (drop k rows)) (sym (zero-mul width))
+flat-append width (c ∷ cs) ds rows =
+    let more : width + length cs * width ≡ suc (length cs) * width = (let e = suc-mul (length cs) width in omega (arith, e)) in
+    ap (λ (es : List Cycle). met_cycle c rows ∷ es)
+    (flat-append width cs ds (drop width rows)
+    ∙ ap (λ (vs : List Tri). met_flat width cs (drop width rows) ++ met_flat width ds vs) (drop-drop (length cs * width) width rows ∙ ap (λ k. drop k rows) more))
 
 pub flat_long : (width : ℕ) (cs : List Cycle) (rows : List Tri) → length (met_flat width cs rows) ≡ length cs
 flat_long width [] rows = refl

@@ -62,7 +62,11 @@ fn push_name(names: &mut Texts, unknown: bool, name: &[u8]) -> Result<(), AllocE
 }
 
 /// The names of the known inputs.
-fn known_names(alloc: Global, unknown: &[bool], all: &Texts) -> Result<Texts, AllocError>
+pub(crate) fn known_names(
+    alloc: Global,
+    unknown: &[bool],
+    all: &Texts,
+) -> Result<Texts, AllocError>
     ensures { IfOk result (λ names. names ≡ known_part unknown.now all.now) }
 {
     let mut names = Texts::new(alloc);

@@ -1,5 +1,5 @@
 //! Laws of masked tests: functions that do nothing, whose contracts are the laws.
-ghost use Rattle.masked_test.specs.Laws.{KnownFits, KnownVectors, MaskedFits, MaskedPasses};
+ghost use Rattle.masked_test.specs.Laws.{FittingKnownCycles, KnownFits, KnownVectors, MaskedFits, MaskedPasses};
 
 use stil_vectors::fitting_cycles;
 
@@ -8,9 +8,14 @@ pub fn known_vectors()
     ensures { KnownVectors }
 {}
 
-/// How wide they are.
+/// What the file without the unknown inputs fits.
 pub fn known_fits()
     ensures { KnownFits }
+{}
+
+/// How wide the cycles of such a file are.
+pub fn fitting_known_cycles()
+    ensures { FittingKnownCycles }
 {
     fitting_cycles();
 }
