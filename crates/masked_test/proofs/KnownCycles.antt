@@ -4,15 +4,18 @@ use Rattle.std.specs.List.{All, AllZip, flat_map}
 use Rattle.std.proofs.lemmas.List.{length-map, map-append}
 use Rattle.std.proofs.lemmas.List.Elements.{All-cons, All-head, All-nil, All-tail}
 use Rattle.statement.specs.Benches.{Text}
+use Rattle.statement.specs.Netlists.{Netlist}
 use Rattle.statement.specs.Runs.{Cycle, numbers_from}
 use Rattle.statement.specs.Stils.{Call, Item, StilFile, Vector, clock}
 use Rattle.statement.specs.Tests.{call_cycle, column, cycles_of_item, driven_bit, has_pulse, strobed_value, vector_cycle, vectors_in}
+use Rattle.scan_play.specs.Cycles.{IsCycleOf}
 use Rattle.scan_play.proofs.BurstLemmas.{same_cycle}
 use Rattle.stil_write.specs.StilFiles.{IsItem, IsStilFile, IsWord, shift_size, vector_forms}
+use Rattle.stil_vectors.specs.Laws.{FittingCycles}
 use Rattle.masked_test.specs.Unknowns.{Unknowns, known_part}
 use Rattle.masked_test.specs.Known.{known_cycle, known_file, known_item, known_words}
-use Rattle.masked_test.specs.Laws.{KnownVectors}
-use Rattle.masked_test.proofs.KnownLemmas.{known-append, known-map}
+use Rattle.masked_test.specs.Laws.{KnownFits, KnownVectors}
+use Rattle.masked_test.proofs.KnownLemmas.{known-append, known-map, known_long}
 
 -- the bits of some characters, and others behind them
 driven_known : (us : Unknowns) (word : Text) (more : List Bool) → length us ≤ length word
@@ -76,3 +79,23 @@ module _ (us : Unknowns) (f : StilFile) (short : length us ≤ length f.pi) wher
 
 pub known_vectors : KnownVectors
 known_vectors f us h short = items_known us f short f.items h h.items
+
+-- ---- how wide they are
+
+cycle_known : (us : Unknowns) (whole n : Netlist) (c : Cycle) → length n.inputs ≡ length (known_part us whole.inputs) → length n.outputs ≡ length whole.outputs
+    → IsCycleOf whole c → IsCycleOf n (known_cycle us c)
+cycle_known us whole n c inputs outputs fit = record {
+  drive = known_long us c.drive whole.inputs fit.drive ∙ sym inputs;
+  strobe = fit.strobe ∙ sym outputs;
+}
+
+cycles_known : (us : Unknowns) (whole n : Netlist) (cs : List Cycle) → length n.inputs ≡ length (known_part us whole.inputs) → length n.outputs ≡ length whole.outputs
+    → All (IsCycleOf whole) cs → All (IsCycleOf n) (map (known_cycle us) cs)
+cycles_known us whole n [] inputs outputs fit = All-nil (IsCycleOf n)
+cycles_known us whole n (c ∷ cs) inputs outputs fit =
+    All-cons (IsCycleOf n) (known_cycle us c) (map (known_cycle us) cs) (cycle_known us whole n c inputs outputs (All-head (IsCycleOf whole) c cs fit))
+    (cycles_known us whole n cs inputs outputs (All-tail (IsCycleOf whole) c cs fit))
+
+pub known_fits : FittingCycles → KnownFits
+known_fits fitting f whole n us h fits short inputs outputs =
+    subst (λ (cs : List Cycle). All (IsCycleOf n) cs) (sym (known_vectors f us h short)) (cycles_known us whole n (vectors_in f) inputs outputs (fitting f whole h fits))

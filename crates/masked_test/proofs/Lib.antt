@@ -1,7 +1,6 @@
 mod KnownLemmas
 mod KnownCycles
 mod KnownFiles
-mod KnownFitting
 mod MetLemmas
 mod WordLemmas
 mod ItemLemmas

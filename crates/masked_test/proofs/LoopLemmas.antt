@@ -142,28 +142,3 @@ known_vector us [] first own blank mid all h is b m a = cc
 known_vector us (word ∷ words) first own blank mid all h is b m a =
     let same : word ≡ first = cc in
     a ∙ (ap (λ ws. ws ++ words) (m ∙ ap (λ ws. ws ++ own ∷ []) b) ∙ ap (λ w. w ∷ words) (is ∙ ap (known_part us) (sym same)))
-
--- ---- names, one by one
-
-pub pushed_more : {X : Type 0} (f : X → Text) (xs : List X) (i : ℕ) (x : X) (before old new : List Text) (name : Text) → i < length xs → x ≡ get_or xs i x → name ≡ f x
-    → old ≡ before ++ map f (take i xs) → new ≡ old ++ name ∷ [] → new ≡ before ++ map f (take (i + 1) xs)
-pushed_more f xs i x before old new name l is named e n =
-    n ∙ (ap (λ ws. ws ++ name ∷ []) e ∙ (append_assoc before (map f (take i xs)) (name ∷ [])
-    ∙ ap (λ ws. before ++ ws) (ap (λ w. map f (take i xs) ++ w ∷ []) named
-    ∙ (sym (map_push f (take i xs) x) ∙ ap (map f) (ap (λ y. take i xs ++ y ∷ []) is ∙ sym (take_more xs i x l))))))
-
--- one more text is the same
-pub same_more : (one other : List Text) (i : ℕ) (a b : Text) → slice_get one i ≡ Some a → slice_get other i ≡ Some b → a ≡ b → take i one ≡ take i other → take (i + 1) one ≡ take (i + 1) other
-same_more one other i a b ha hb e so_far =
-    let x = take_more one i a (slice_get_within one i a ha) ∙ ap (λ y. take i one ++ y ∷ []) (get_or_from_slice_get one i a a ha) in
-    let y = take_more other i b (slice_get_within other i b hb) ∙ ap (λ z. take i other ++ z ∷ []) (get_or_from_slice_get other i b b hb) in
-    x ∙ (ap (λ ts. ts ++ a ∷ []) so_far ∙ (ap (λ z. take i other ++ z ∷ []) e ∙ sym y))
-
-pub some_differ : (one other : List Text) (i : ℕ) (a b : Text) → slice_get one i ≡ Some a → slice_get other i ≡ Some b → (a ≡ b → ⊥) → one ≡ other → ⊥
-some_differ one other i a b ha hb ne e =
-    let s : Some a ≡ Some b = sym ha ∙ (ap (λ ts. slice_get ts i) e ∙ hb) in
-    let t : a ≡ b = cc in
-    ne t
-
-pub same_done : (one other : List Text) (i : ℕ) → length one ≤ i → length other ≤ i → take i one ≡ take i other → one ≡ other
-same_done one other i l k e = sym (take_all i one l) ∙ (e ∙ take_all i other k)

@@ -1,14 +1,12 @@
 -- A masked test, and that the good netlist passes it.
-use Rattle.std.proofs.Common.{◌≡◌, ℕ, suc, zero, ◌<◌, ◌⊎◌, List, [], ◌∷◌, ◌++◌, codes, length, map, get_or, replicate, Some, None, slice_get, refl, sym, ◌∙◌, ap, subst, inl, inr}
-use Rattle.std.specs.Prelude.{◌↔◌}
+use Rattle.std.proofs.Common.{◌≡◌, ℕ, suc, zero, ◌<◌, ◌⊎◌, List, [], ◌∷◌, ◌++◌, length, map, get_or, replicate, Some, None, slice_get, refl, sym, ◌∙◌, ap, subst, inl, inr}
 use Rattle.std.specs.List.{All, flat_map}
 use Rattle.std.proofs.lemmas.List.Elements.{All-cons, All-head, All-nil, All-tail, All-weaker}
-use Rattle.statement.specs.Benches.{Text}
 use Rattle.statement.specs.declared.kinds.Tri.{Tri}
 use Rattle.statement.specs.declared.kinds.Tri.TheVariants.{Zero, One, X}
 use Rattle.statement.specs.Netlists.{Netlist, cells}
 use Rattle.statement.specs.Runs.{Cycle, Runs, Ticks}
-use Rattle.statement.specs.Stils.{Call, Item, StilFile, Vector, numbered, scan_inputs, scan_outputs}
+use Rattle.statement.specs.Stils.{Call, Item, StilFile, Vector}
 use Rattle.statement.specs.Tests.{cycles_of_item, vectors_in}
 use Rattle.tri.specs.Settled.{tri_table}
 use Rattle.lane_play.specs.Shown.{AreShown}
@@ -16,9 +14,7 @@ use Rattle.scan_play.specs.Cycles.{IsCycleOf}
 use Rattle.scan_play.specs.Playing.{IsStrobeMet, PlaysAs}
 use Rattle.scan_play.specs.declared.played.Played.TheVariants.{Passes}
 use Rattle.stil_write.specs.StilFiles.{IsItem, IsStilFile}
-use Rattle.masked_test.specs.Unknowns.{Unknowns}
-use Rattle.masked_test.specs.Known.{FitsKnown}
-use Rattle.masked_test.specs.Laws.{FitsAlike, MaskedFits, MaskedPasses}
+use Rattle.masked_test.specs.Laws.{MaskedFits, MaskedPasses}
 use Rattle.masked_test.specs.Masked.{IsMasked, met, met_cycle, met_cycles, met_row}
 use Rattle.masked_test.specs.inner.Items.{met_items, with_items}
 use Rattle.masked_test.proofs.FormLemmas.{items_fit}
@@ -81,20 +77,8 @@ cycles_fit m (c ∷ cs) [] fit =
 cycles_fit m (c ∷ cs) (row ∷ rows) fit =
     All-cons (IsCycleOf m) (met_cycle c row) (met_cycles cs rows) (cycle_fits m c row (All-head (IsCycleOf m) c cs fit)) (cycles_fit m cs rows (All-tail (IsCycleOf m) c cs fit))
 
-names_fit : (n m : Netlist) (file masked : StilFile) (us : Unknowns) → IsMasked n file masked → FitsKnown file m us → FitsKnown masked m us
-names_fit n m file masked us h fit = record {
-  inputs = ap (λ (names : List Text). names ++ scan_inputs masked) h.pi
-      ∙ (ap (λ (chains : List (List Text)). file.pi ++ numbered (codes "SC__si") (length chains)) h.chains ∙ fit.inputs);
-  outputs = ap (λ (names : List Text). names ++ scan_outputs masked) h.po
-      ∙ (ap (λ (chains : List (List Text)). file.po ++ numbered (codes "SC__so") (length chains)) h.chains ∙ fit.outputs);
-  chains = subst (λ (chains : List (List Text)). (length chains ≡ 0) ↔ (length (cells m) ≡ 0)) (sym h.chains) fit.chains;
-}
-
 pub masked_fits : MaskedFits
-masked_fits n m file masked h = record {
-  cycles = λ fit. subst (λ (cs : List Cycle). All (IsCycleOf m) cs) (sym h.vectors) (cycles_fit m (vectors_in file) h.shown fit);
-  names = λ us fit. names_fit n m file masked us h fit;
-}
+masked_fits n m file masked h fit = subst (λ (cs : List Cycle). All (IsCycleOf m) cs) (sym h.vectors) (cycles_fit m (vectors_in file) h.shown fit)
 
 -- ---- the file
 

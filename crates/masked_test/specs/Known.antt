@@ -1,9 +1,8 @@
 -- A file without the inputs that the tester can't set.
-use Rattle.std.specs.Prelude.{◌≡◌, ◌↔◌, List, [], ◌∷◌, ◌++◌, length, map}
+use Rattle.std.specs.Prelude.{List, [], ◌∷◌, map}
 use Rattle.statement.specs.Benches.{Text}
-use Rattle.statement.specs.Netlists.{Netlist, cells, name_of}
-use Rattle.statement.specs.Runs.{Cycle, output_name}
-use Rattle.statement.specs.Stils.{Call, Item, StilFile, Vector, scan_inputs, scan_outputs}
+use Rattle.statement.specs.Runs.{Cycle}
+use Rattle.statement.specs.Stils.{Call, Item, StilFile, Vector}
 use Rattle.masked_test.specs.Unknowns.{Unknowns, known_part}
 
 abbrev pub known_cycle : Unknowns → Cycle → Cycle
@@ -27,10 +26,3 @@ known_file unknown f = record {
   shift_word = known_part unknown f.shift_word;
   items = map (known_item unknown) f.items;
 }
-
--- A file fits a netlist, but that it doesn't name the unknown inputs: its inputs and the scan inputs are the netlist's known inputs, the outputs and the
--- scan outputs the pins of its outputs, in order, and there are chains exactly where there are cells.
-pub record FitsKnown (f : StilFile) (n : Netlist) (unknown : Unknowns) : Type 0 where
-  pub inputs : f.pi ++ scan_inputs f ≡ known_part unknown (map (name_of n) n.inputs)
-  pub outputs : f.po ++ scan_outputs f ≡ map (output_name n) n.outputs
-  pub chains : (length f.chains ≡ 0) ↔ (length (cells n) ≡ 0)

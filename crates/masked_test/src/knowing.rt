@@ -62,11 +62,7 @@ fn push_name(names: &mut Texts, unknown: bool, name: &[u8]) -> Result<(), AllocE
 }
 
 /// The names of the known inputs.
-pub(crate) fn known_names(
-    alloc: Global,
-    unknown: &[bool],
-    all: &Texts,
-) -> Result<Texts, AllocError>
+fn known_names(alloc: Global, unknown: &[bool], all: &Texts) -> Result<Texts, AllocError>
     ensures { IfOk result (λ names. names ≡ known_part unknown.now all.now) }
 {
     let mut names = Texts::new(alloc);
@@ -93,7 +89,8 @@ fn set_words(
     room.word.clear();
     push_known(&mut room.word, unknown, items.word(place, 0))?;
     room.words.push(&room.word)?;
-    push_rest(&mut room.words, items, place, 1)
+    push_rest(&mut room.words, items, place, 1)?;
+    Ok(())
 }
 
 fn push_call(

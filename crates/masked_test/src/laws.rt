@@ -1,5 +1,5 @@
 //! Laws of masked tests: functions that do nothing, whose contracts are the laws.
-ghost use Rattle.masked_test.specs.Laws.{FittingKnownCycles, KnownFits, KnownVectors, MaskedFits, MaskedPasses};
+ghost use Rattle.masked_test.specs.Laws.{KnownFits, KnownVectors, MaskedFits, MaskedPasses};
 
 use stil_vectors::fitting_cycles;
 
@@ -8,14 +8,9 @@ pub fn known_vectors()
     ensures { KnownVectors }
 {}
 
-/// What the file without the unknown inputs fits.
+/// How wide they are.
 pub fn known_fits()
     ensures { KnownFits }
-{}
-
-/// How wide the cycles of such a file are.
-pub fn fitting_known_cycles()
-    ensures { FittingKnownCycles }
 {
     fitting_cycles();
 }
@@ -25,7 +20,7 @@ pub fn masked_passes()
     ensures { MaskedPasses }
 {}
 
-/// A masked test fits whatever the test fits.
+/// How wide the cycles of a masked test are.
 pub fn masked_fits()
     ensures { MaskedFits }
 {}

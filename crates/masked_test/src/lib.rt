@@ -3,21 +3,19 @@
 //! First the file without these inputs (`known_file`). Then each strobe that the good netlist, played in three values, isn't known to meet is taken out
 //! (`masked_file`). Who gives it the netlist in which these inputs are X has a test that the good netlist passes whatever they have.
 //!
-//! Gives: `known_file`, `masked_file`, `masked_test`, `fits_known`.
-//! Proved: `known_file`: exactly the file without the inputs; `masked_file`: exactly the masked test; `masked_test`: the one after the other; `fits_known`
-//! exactly, of a file that leaves these inputs out; the laws: the file without the inputs has the cycles without what drives these, and fits; the masked
-//! test fits what the test fits, and the good netlist is known to meet each of its strobes.
+//! Gives: `known_file`, `masked_file`, `masked_test`.
+//! Proved: `known_file`: exactly the file without the inputs; `masked_file`: exactly the masked test; `masked_test`: the one after the other; the laws: the
+//! file without the inputs has the cycles without what drives these; how wide these and those of a masked test are; the good netlist is known to meet each
+//! strobe of its masked test.
 //! Neither: time.
 #![tactic(auto)]
 
 mod copying;
-mod fitting;
 mod knowing;
 mod laws;
 mod masking;
 mod words;
 
-pub use fitting::fits_known;
 pub use knowing::known_file;
-pub use laws::{fitting_known_cycles, known_fits, known_vectors, masked_fits, masked_passes};
+pub use laws::{known_fits, known_vectors, masked_fits, masked_passes};
 pub use masking::{masked_file, masked_test};

@@ -12,4 +12,4 @@ pub returns : goal.returns
 returns c =
     known_vector c.args.unknown.now (words_of (item_at c.args.items.now c.args.place)) c.word.result.now c.deref.result.now c.clear.new.self c.push.new.self c.push_rest.new.words c.word.ensures
     (c.deref.ensures.value ∙ (c.in_ok-push_known.ensures ∙ ap (λ bs. bs ++ known_part c.args.unknown.now c.word.result.now) c.clear-2.ensures.items)) c.clear.ensures c.in_ok-push.ensures.ok
-    c.push_rest.ensures
+    c.in_ok-push_rest.ensures
