@@ -141,11 +141,13 @@ shows_begin faults n state values s e =
     subst (λ (vs : List Tri). ShowsOn (slice_get faults 0) n [] start (lanes 0 state) vs) (sym e)
     (subst (λ (x : List Tri). ShowsOn (slice_get faults 0) n [] start x []) (sym is) (shows_nothing (slice_get faults 0) n start))
 
-pub all_shown : (n : Netlist) (cycles : List Cycle) (state : List Lanes) (values : List Tri) → IsSound n → All (IsCycleOf n) cycles → IsShownOn [] n cycles state values → AreShown n None cycles values
-all_shown n cycles state values sound fits h =
+pub all_shown : (faults : List Fault) (n : Netlist) (cycles : List Cycle) (state : List Lanes) (values : List Tri) → IsSound n → All (IsCycleOf n) cycles → IsShownOn faults n cycles state values
+    → AreShown n (slice_get faults 0) cycles values
+all_shown faults n cycles state values sound fits h =
+    let f : Option Fault = slice_get faults 0 in
     let start : List Tri = replicate (length (cells n)) X in
-    let r = some_run X tri_table None n start cycles sound.formed.numbered sound.closed sound.acyclic (length-replicate (length (cells n)) X) fits in
-    let t = h [] r.0 (subst (λ (x : List Cycle). Runs tri_table None n start x r.0) (sym (append-nil cycles)) r.1) in
+    let r = some_run X tri_table f n start cycles sound.formed.numbered sound.closed sound.acyclic (length-replicate (length (cells n)) X) fits in
+    let t = h [] r.0 (subst (λ (x : List Cycle). Runs tri_table f n start x r.0) (sym (append-nil cycles)) r.1) in
     record { shown = r.0; runs = r.1; are = sym (append-nil values) ∙ (sym t.2 ∙ ap (λ x. strobed_rows x r.0) (append-nil cycles)) }
 
 -- ---- a row

@@ -1,7 +1,7 @@
 //! What the good machine shows wherever a bit is strobed.
 //!
 //! It is played as one of 128 machines, of which none has a line stuck: the gates of a plan make only what is strobed, so nothing else is told.
-ghost use Rattle.std.specs.Prelude.{◌≡◌, ◌++◌, ◌^◌, ◌<◌, [], None, IfOk, OnOk, length};
+ghost use Rattle.std.specs.Prelude.{◌≡◌, ◌++◌, ◌^◌, ◌<◌, ◌≤◌, [], None, IfOk, OnOk, length, slice_get};
 ghost use Rattle.std.specs.List.{All};
 ghost use Rattle.scan_play.specs.Cycles.{IsCycleOf};
 ghost use Rattle.lane_play.specs.Shown.{AreShown, strobed_row, where_strobed};
@@ -11,7 +11,7 @@ use crate::legs::cycles_in;
 use crate::packed::Lanes;
 use crate::playing::play;
 use crate::watching::Watch;
-use netlist::{Core, NoMemory, Tri};
+use netlist::{Core, Fault, NoMemory, Tri};
 use scan_play::Vectors;
 use std::alloc::{AllocError, Global};
 
@@ -75,6 +75,24 @@ fn room(alloc: Global, core: &Core, vectors: &Vectors) -> Result<Vec<Tri>, Alloc
     Vec::with_capacity(alloc, cycles.saturating_mul(outputs))
 }
 
+/// What the first of up to 128 machines with these stuck lines shows, or the good one where there is none.
+fn first_shown(
+    alloc: Global,
+    core: &Core,
+    faults: &[Fault],
+    vectors: &Vectors,
+) -> Result<Vec<Tri>, NoMemory>
+    requires machines { length faults.now ≤ 128 }
+    requires fits { All (IsCycleOf core.now) vectors.now }
+    requires few { length vectors.now < 2 ^ 64 }
+    ensures { IfOk result (λ values. AreShown core.now (slice_get faults.now 0) vectors.now values.items) }
+{
+    core.netlist().sound();
+    let values = room(alloc, core, vectors)?;
+    let Shown { values } = play(alloc, core, faults, vectors, &(), Shown { values })?;
+    Ok(values)
+}
+
 /// Plays vectors on a netlist in three values: what it shows wherever a bit is strobed, and X elsewhere, a value for each output, cycle by cycle.
 pub fn shown_where_strobed(
     alloc: Global,
@@ -85,8 +103,5 @@ pub fn shown_where_strobed(
     requires few { length vectors.now < 2 ^ 64 }
     ensures { IfOk result (λ values. AreShown core.now None vectors.now values.items) }
 {
-    core.netlist().sound();
-    let values = room(alloc, core, vectors)?;
-    let Shown { values } = play(alloc, core, &[], vectors, &(), Shown { values })?;
-    Ok(values)
+    first_shown(alloc, core, &[], vectors)
 }
