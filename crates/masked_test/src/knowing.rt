@@ -152,11 +152,7 @@ fn known_items(alloc: Global, unknown: &[bool], all: &Items) -> Result<Items, Al
     Ok(items)
 }
 
-fn known_parts(
-    alloc: Global,
-    unknown: &[bool],
-    file: &StilFile,
-) -> Result<StilParts, AllocError>
+fn known_parts(alloc: Global, unknown: &[bool], file: &StilFile) -> Result<StilParts, AllocError>
     ensures { IfOk result (λ parts. file_of parts ≡ known_file unknown.now file.now) }
 {
     let pi = known_names(alloc, unknown, file.pi())?;
@@ -175,11 +171,7 @@ fn known_parts(
 }
 
 /// A file without the inputs that the tester can't set, of which some have to be left, since every file has an input.
-pub fn known_file(
-    alloc: Global,
-    unknown: &[bool],
-    file: &StilFile,
-) -> Result<StilFile, NoMemory>
+pub fn known_file(alloc: Global, unknown: &[bool], file: &StilFile) -> Result<StilFile, NoMemory>
     requires { 1 ≤ length (known_part unknown.now file.now.pi) }
     ensures { IfOk result (λ known. known ≡ known_file unknown.now file.now) }
 {

@@ -94,12 +94,7 @@ pub(crate) fn behind_rows(rows: &[Tri], count: usize, width: usize) -> &[Tri]
 }
 
 /// Puts a word's characters, each met by the value that stands first in its row, in the place of others.
-fn set_met(
-    word: &mut Vec<u8>,
-    all: &[u8],
-    rows: &[Tri],
-    width: usize,
-) -> Result<(), AllocError>
+fn set_met(word: &mut Vec<u8>, all: &[u8], rows: &[Tri], width: usize) -> Result<(), AllocError>
     ensures { OnOk result (word.new.items ≡ met_column width all.now rows.now) }
 {
     word.clear();
