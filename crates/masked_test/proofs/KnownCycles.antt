@@ -12,7 +12,7 @@ use Rattle.scan_play.specs.Cycles.{IsCycleOf}
 use Rattle.scan_play.proofs.BurstLemmas.{same_cycle}
 use Rattle.stil_write.specs.StilFiles.{IsItem, IsStilFile, IsWord, shift_size, vector_forms}
 use Rattle.stil_vectors.specs.Laws.{FittingCycles}
-use Rattle.masked_test.specs.Unknowns.{Unknowns, known_part}
+use Rattle.unknown_inputs.specs.Unknowns.{Unknowns, known_part}
 use Rattle.masked_test.specs.Known.{known_cycle, known_file, known_item, known_words}
 use Rattle.masked_test.specs.Laws.{KnownFits, KnownVectors}
 use Rattle.masked_test.proofs.KnownLemmas.{known-append, known-map, known_long}

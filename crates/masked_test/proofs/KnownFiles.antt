@@ -7,7 +7,7 @@ use Rattle.statement.specs.Benches.{Text}
 use Rattle.statement.specs.Stils.{Call, Item, StilFile, Vector, clock, scan_inputs, scan_outputs}
 use Rattle.stil_write.specs.declared.forms.CharKind.TheVariants as values
 use Rattle.stil_write.specs.StilFiles.{IsItem, IsStilFile, IsStilName, IsWord, is_value, shift_size, vector_forms}
-use Rattle.masked_test.specs.Unknowns.{Unknowns, known_part}
+use Rattle.unknown_inputs.specs.Unknowns.{Unknowns, known_part}
 use Rattle.masked_test.specs.Known.{known_file, known_item, known_words}
 use Rattle.masked_test.proofs.KnownLemmas.{all_known, known_all, known_long, known_none, pairs_known}
 

@@ -4,7 +4,7 @@ use Rattle.std.specs.List.{All, AllPairs}
 use Rattle.std.proofs.lemmas.List.{drop_more, drop-drop, get_or-drop}
 use Rattle.std.proofs.lemmas.List.Elements.{All-cons, All-head, All-tail}
 use Rattle.std.proofs.lemmas.List.Kept.{AllPairs-cons}
-use Rattle.masked_test.specs.Unknowns.{Unknowns, known_part}
+use Rattle.unknown_inputs.specs.Unknowns.{Unknowns, known_part}
 use Rattle.masked_test.specs.inner.Words.{known_one}
 
 pub known_none : {V : Type 0} (us : Unknowns) → known_part {V = V} us [] ≡ []

@@ -7,7 +7,7 @@ use Rattle.statement.specs.declared.kinds.Tri.{Tri}
 use Rattle.statement.specs.declared.kinds.Tri.TheVariants.{X}
 use Rattle.statement.specs.Stils.{Item, StilFile, Vector}
 use Rattle.stil_write.specs.StilFiles.{item_at}
-use Rattle.masked_test.specs.Unknowns.{Unknowns, known_part}
+use Rattle.unknown_inputs.specs.Unknowns.{Unknowns, known_part}
 use Rattle.masked_test.specs.Known.{known_words}
 use Rattle.masked_test.specs.inner.Words.{known_one, met_char, met_column, met_columns, met_words}
 use Rattle.masked_test.specs.inner.Items.{item_size, met_item, met_items}

@@ -3,7 +3,7 @@ use Rattle.std.specs.Prelude.{List, [], ◌∷◌, map}
 use Rattle.statement.specs.Benches.{Text}
 use Rattle.statement.specs.Runs.{Cycle}
 use Rattle.statement.specs.Stils.{Call, Item, StilFile, Vector}
-use Rattle.masked_test.specs.Unknowns.{Unknowns, known_part}
+use Rattle.unknown_inputs.specs.Unknowns.{Unknowns, known_part}
 
 abbrev pub known_cycle : Unknowns → Cycle → Cycle
 known_cycle unknown c = record { drive = known_part unknown c.drive; strobe = c.strobe; pulse = c.pulse }

@@ -9,7 +9,7 @@ use Rattle.scan_play.specs.Playing.{PlaysAs}
 use Rattle.scan_play.specs.declared.played.Played.TheVariants.{Passes}
 use Rattle.stil_write.specs.StilFiles.{IsStilFile}
 use Rattle.stil_vectors.specs.Fitting.{FitsNetlist}
-use Rattle.masked_test.specs.Unknowns.{Unknowns, known_part}
+use Rattle.unknown_inputs.specs.Unknowns.{Unknowns, known_part}
 use Rattle.masked_test.specs.Known.{known_cycle, known_file}
 use Rattle.masked_test.specs.Masked.{IsMasked}
 

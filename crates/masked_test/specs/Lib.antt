@@ -1,4 +1,3 @@
-pub mod Unknowns
 pub mod Known
 pub mod Masked
 pub mod Laws

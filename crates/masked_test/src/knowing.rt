@@ -3,7 +3,7 @@ ghost use Rattle.std.specs.Prelude.{◌≡◌, ◌≤◌, ◌<◌, ◌++◌, ◌
 ghost use Rattle.statement.specs.Stils.{Call, Vector};
 ghost use Rattle.stil_write.specs.Parts.{file_of};
 ghost use Rattle.stil_write.specs.StilFiles.{item_at, words_of};
-ghost use Rattle.masked_test.specs.Unknowns.{known_part};
+ghost use Rattle.unknown_inputs.specs.Unknowns.{known_part};
 ghost use Rattle.masked_test.specs.Known.{known_file, known_item, known_words};
 ghost use Rattle.masked_test.specs.inner.Words.{known_one};
 

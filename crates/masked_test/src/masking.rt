@@ -7,7 +7,7 @@ ghost use Rattle.scan_play.specs.Cycles.{IsCycleOf};
 ghost use Rattle.lane_play.specs.Shown.{AreShown};
 ghost use Rattle.stil_write.specs.Parts.{file_of};
 ghost use Rattle.stil_write.specs.StilFiles.{item_at, words_of};
-ghost use Rattle.masked_test.specs.Unknowns.{known_part};
+ghost use Rattle.unknown_inputs.specs.Unknowns.{known_part};
 ghost use Rattle.masked_test.specs.Known.{known_file};
 ghost use Rattle.masked_test.specs.Masked.{IsMasked};
 ghost use Rattle.masked_test.specs.inner.Items.{call_words, driven_count, item_size, met_item, met_items, vector_words, with_items};

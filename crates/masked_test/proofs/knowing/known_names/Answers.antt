@@ -1,6 +1,6 @@
 use Rattle.std.proofs.Common.{◌≤◌, ◌++◌, List, length, arith, ◌∙◌, ap}
 use Rattle.statement.specs.Benches.{Text}
-use Rattle.masked_test.specs.Unknowns.{known_part}
+use Rattle.unknown_inputs.specs.Unknowns.{known_part}
 use Rattle.masked_test.specs.inner.Words.{known_one}
 use Rattle.masked_test.proofs.LoopLemmas.{known_done, names_more}
 use Rattle.masked_test.proofs.knowing.known_names.Goals as goal

@@ -1,5 +1,5 @@
 use Rattle.std.proofs.Common.{◌≡◌, ◌++◌, drop}
-use Rattle.masked_test.specs.Unknowns.{known_part}
+use Rattle.unknown_inputs.specs.Unknowns.{known_part}
 use Rattle.masked_test.proofs.knowing.known_names.Given as goal
 
 abbrev pub invariant-loop-k : goal.invariant-loop-k

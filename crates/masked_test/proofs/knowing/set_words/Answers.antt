@@ -1,6 +1,6 @@
 use Rattle.std.proofs.Common.{◌∙◌, ◌++◌, ap, sym}
 use Rattle.stil_write.specs.StilFiles.{item_at, words_of}
-use Rattle.masked_test.specs.Unknowns.{known_part}
+use Rattle.unknown_inputs.specs.Unknowns.{known_part}
 use Rattle.masked_test.proofs.LoopLemmas.{known_nothing, known_vector}
 use Rattle.masked_test.proofs.knowing.set_words.Goals as goal
 
