@@ -1,5 +1,5 @@
 -- Masked items have the forms of items.
-use Rattle.std.proofs.Common.{◌≡◌, ℕ, suc, zero, ◌+◌, ◌*◌, ◌<◌, ◌≤◌, List, [], ◌∷◌, ◌++◌, map, length, take, drop, replicate, min, refl, sym, ◌∙◌, ap, subst, arith, length-append}
+use Rattle.std.proofs.Common.{◌≡◌, ℕ, suc, zero, ◌+◌, ◌*◌, ◌≤◌, List, [], ◌∷◌, ◌++◌, length, take, drop, replicate, min, refl, sym, ◌∙◌, ap, subst, arith, length-append}
 use Rattle.std.specs.Prelude.{IsTrue, ⊤, codes}
 use Rattle.std.specs.List.{All, AllZip}
 use Rattle.std.proofs.lemmas.List.{append_assoc, length-replicate}
@@ -16,7 +16,7 @@ use Rattle.stil_write.specs.declared.forms.Form.{Form}
 use Rattle.stil_write.specs.StilFiles.{IsItem, IsStilCall, IsWord, call_forms, is_value, vector_forms}
 use Rattle.masked_test.specs.Masked.{met}
 use Rattle.masked_test.specs.inner.Words.{met_column, met_columns, met_words}
-use Rattle.masked_test.specs.inner.Items.{call_words, driven_count, item_size, met_item, met_items, vector_words}
+use Rattle.masked_test.specs.inner.Items.{driven_count, item_size, met_item, met_items, vector_words}
 use Rattle.masked_test.proofs.WordLemmas.{column_long}
 
 -- ---- how many words there are

@@ -1,5 +1,5 @@
 -- The cycles of masked items.
-use Rattle.std.proofs.Common.{◌≡◌, ℕ, suc, zero, ◌+◌, ◌*◌, ◌<◌, ◌≤◌, ◌==◌, Bool, false, List, [], ◌∷◌, ◌++◌, map, length, get_or, take, drop, replicate, refl, sym, ◌∙◌, ap, arith}
+use Rattle.std.proofs.Common.{◌≡◌, ℕ, suc, zero, ◌+◌, ◌*◌, ◌<◌, ◌≤◌, ◌==◌, false, List, [], ◌∷◌, ◌++◌, map, length, get_or, take, drop, replicate, refl, sym, ◌∙◌, ap, arith}
 use Rattle.std.specs.List.{All, AllZip, flat_map}
 use Rattle.std.proofs.lemmas.List.{drop-drop, drop_at, get_or-take, get_or_append_left, length-map, length-replicate, length-take-le, take-append-le, take-take, take_at}
 use Rattle.std.proofs.lemmas.List.Elements.{All-head, All-tail}
@@ -8,7 +8,7 @@ use Rattle.statement.specs.Benches.{Text}
 use Rattle.statement.specs.declared.kinds.Tri.{Tri}
 use Rattle.statement.specs.declared.kinds.Tri.TheVariants.{X}
 use Rattle.statement.specs.Runs.{Cycle, numbers_from}
-use Rattle.statement.specs.Stils.{Call, Item, StilFile, Vector, clock}
+use Rattle.statement.specs.Stils.{Call, Item, StilFile, Vector}
 use Rattle.statement.specs.Tests.{call_cycle, column, cycles_of_item, driven_bit, has_pulse, strobed_value, vector_cycle}
 use Rattle.scan_insert.proofs.Numbers.{length-numbers_from}
 use Rattle.scan_play.proofs.BurstLemmas.{same_cycle}

@@ -1,5 +1,5 @@
 -- A masked test, and that the good netlist passes it.
-use Rattle.std.proofs.Common.{◌≡◌, ℕ, suc, zero, ◌<◌, ◌⊎◌, List, [], ◌∷◌, ◌++◌, length, map, get_or, replicate, Some, None, slice_get, refl, sym, ◌∙◌, ap, subst, inl, inr}
+use Rattle.std.proofs.Common.{◌≡◌, ℕ, suc, zero, ◌⊎◌, List, [], ◌∷◌, ◌++◌, length, map, get_or, replicate, Some, None, slice_get, refl, sym, ◌∙◌, ap, subst, inl, inr}
 use Rattle.std.specs.List.{All, flat_map}
 use Rattle.std.proofs.lemmas.List.Elements.{All-cons, All-head, All-nil, All-tail, All-weaker}
 use Rattle.statement.specs.declared.kinds.Tri.{Tri}
@@ -13,7 +13,7 @@ use Rattle.lane_play.specs.Shown.{AreShown}
 use Rattle.scan_play.specs.Cycles.{IsCycleOf}
 use Rattle.scan_play.specs.Playing.{IsStrobeMet, PlaysAs}
 use Rattle.scan_play.specs.declared.played.Played.TheVariants.{Passes}
-use Rattle.stil_write.specs.StilFiles.{IsItem, IsStilFile}
+use Rattle.stil_write.specs.StilFiles.{IsStilFile}
 use Rattle.masked_test.specs.Laws.{MaskedFits, MaskedPasses}
 use Rattle.masked_test.specs.Masked.{IsMasked, met, met_cycle, met_cycles, met_row}
 use Rattle.masked_test.specs.inner.Items.{met_items, with_items}

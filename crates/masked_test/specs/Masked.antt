@@ -4,7 +4,7 @@ use Rattle.statement.specs.declared.kinds.Tri.{Tri}
 use Rattle.statement.specs.declared.kinds.Tri.TheVariants.{Zero, One, X}
 use Rattle.statement.specs.Netlists.{Netlist}
 use Rattle.statement.specs.Runs.{Cycle}
-use Rattle.statement.specs.Stils.{Item, StilFile}
+use Rattle.statement.specs.Stils.{StilFile}
 use Rattle.statement.specs.Tests.{cycles_of_item, vectors_in}
 use Rattle.scan_play.specs.Playing.{PlayRuns}
 use Rattle.stil_write.specs.StilFiles.{item_kind}

@@ -1,4 +1,3 @@
-use Rattle.std.proofs.Common.{arith}
 use Rattle.stil_write.specs.StilFiles.{item_at, words_of}
 use Rattle.masked_test.proofs.LoopLemmas.{first_done, first_more}
 use Rattle.masked_test.proofs.copying.push_first.Goals as goal
