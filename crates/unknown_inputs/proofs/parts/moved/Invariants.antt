@@ -1,0 +1,6 @@
+use Rattle.std.proofs.Common.{◌≡◌, map, take}
+use Rattle.unknown_inputs.specs.Opened.{number_by}
+use Rattle.unknown_inputs.proofs.parts.moved.Given as goal
+
+abbrev pub invariant-loop-x : goal.invariant-loop-x
+invariant-loop-x l = l.moved.items ≡ map (number_by l.numbers) (take l.x-index l.signals)

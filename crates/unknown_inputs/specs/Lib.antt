@@ -1,0 +1,3 @@
+pub mod Unknowns
+pub mod Opened
+pub mod Laws
