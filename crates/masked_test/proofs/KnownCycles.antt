@@ -4,9 +4,9 @@ use Rattle.std.specs.List.{All, AllZip, flat_map}
 use Rattle.std.proofs.lemmas.List.{length-map, map-append}
 use Rattle.std.proofs.lemmas.List.Elements.{All-cons, All-head, All-nil, All-tail}
 use Rattle.statement.specs.Benches.{Text}
-use Rattle.statement.specs.Netlists.{Netlist}
+use Rattle.statement.specs.Netlists.{Netlist, name_of}
 use Rattle.statement.specs.Runs.{Cycle, numbers_from}
-use Rattle.statement.specs.Stils.{Call, Item, StilFile, Vector, clock}
+use Rattle.statement.specs.Stils.{Call, Item, StilFile, Vector, clock, scan_inputs}
 use Rattle.statement.specs.Tests.{call_cycle, column, cycles_of_item, driven_bit, has_pulse, strobed_value, vector_cycle, vectors_in}
 use Rattle.scan_play.specs.Cycles.{IsCycleOf}
 use Rattle.scan_play.proofs.BurstLemmas.{same_cycle}
@@ -14,7 +14,7 @@ use Rattle.stil_write.specs.StilFiles.{IsItem, IsStilFile, IsWord, shift_size, v
 use Rattle.stil_vectors.specs.Laws.{FittingCycles}
 use Rattle.unknown_inputs.specs.Unknowns.{Unknowns, known_part}
 use Rattle.masked_test.specs.Known.{known_cycle, known_file, known_item, known_words}
-use Rattle.masked_test.specs.Laws.{KnownFits, KnownVectors}
+use Rattle.masked_test.specs.Laws.{KnownFits, KnownNames, KnownVectors}
 use Rattle.masked_test.proofs.KnownLemmas.{known-append, known-map, known_long}
 
 -- the bits of some characters, and others behind them
@@ -99,3 +99,9 @@ cycles_known us whole n (c ∷ cs) inputs outputs fit =
 pub known_fits : FittingCycles → KnownFits
 known_fits fitting f whole n us h fits short inputs outputs =
     subst (λ (cs : List Cycle). All (IsCycleOf n) cs) (sym (known_vectors f us h short)) (cycles_known us whole n (vectors_in f) inputs outputs (fitting f whole h fits))
+
+-- ---- how its inputs are called
+
+pub known_names : KnownNames
+known_names f whole us fits short =
+    sym (known-append us f.pi (scan_inputs f) short) ∙ (ap (known_part us) fits.inputs ∙ known-map (name_of whole) us whole.inputs)

@@ -1,8 +1,8 @@
 -- Laws of masked tests, each the contract of a function of its name.
-use Rattle.std.specs.Prelude.{◌≡◌, ◌≤◌, length, map, None}
+use Rattle.std.specs.Prelude.{◌≡◌, ◌≤◌, ◌++◌, length, map, None}
 use Rattle.std.specs.List.{All}
-use Rattle.statement.specs.Netlists.{Netlist}
-use Rattle.statement.specs.Stils.{StilFile}
+use Rattle.statement.specs.Netlists.{Netlist, name_of}
+use Rattle.statement.specs.Stils.{StilFile, scan_inputs}
 use Rattle.statement.specs.Tests.{vectors_in}
 use Rattle.scan_play.specs.Cycles.{IsCycleOf}
 use Rattle.scan_play.specs.Playing.{PlaysAs}
@@ -18,7 +18,13 @@ abbrev pub KnownVectors : Type 0
 KnownVectors =
     (f : StilFile) (unknown : Unknowns) → IsStilFile f → length unknown ≤ length f.pi → vectors_in (known_file unknown f) ≡ map (known_cycle unknown) (vectors_in f)
 
--- They are as wide as a netlist of the known inputs and as many outputs, where the file fits one of all inputs.
+-- Its inputs and the scan inputs are the known inputs of a netlist that the file fits.
+abbrev pub KnownNames : Type 0
+KnownNames =
+    (f : StilFile) (whole : Netlist) (unknown : Unknowns) → FitsNetlist f whole → length unknown ≤ length f.pi
+    → (known_file unknown f).pi ++ scan_inputs (known_file unknown f) ≡ map (name_of whole) (known_part unknown whole.inputs)
+
+-- Its cycles are as wide as a netlist of the known inputs and as many outputs, where the file fits one of all inputs.
 abbrev pub KnownFits : Type 0
 KnownFits =
     (f : StilFile) (whole n : Netlist) (unknown : Unknowns) → IsStilFile f → FitsNetlist f whole → length unknown ≤ length f.pi

@@ -62,7 +62,7 @@ fn push_name(names: &mut Texts, unknown: bool, name: &[u8]) -> Result<(), AllocE
 }
 
 /// The names of the known inputs.
-fn known_names(alloc: Global, unknown: &[bool], all: &Texts) -> Result<Texts, AllocError>
+fn named_known(alloc: Global, unknown: &[bool], all: &Texts) -> Result<Texts, AllocError>
     ensures { IfOk result (λ names. names ≡ known_part unknown.now all.now) }
 {
     let mut names = Texts::new(alloc);
@@ -155,7 +155,7 @@ fn known_items(alloc: Global, unknown: &[bool], all: &Items) -> Result<Items, Al
 fn known_parts(alloc: Global, unknown: &[bool], file: &StilFile) -> Result<StilParts, AllocError>
     ensures { IfOk result (λ parts. file_of parts ≡ known_file unknown.now file.now) }
 {
-    let pi = known_names(alloc, unknown, file.pi())?;
+    let pi = named_known(alloc, unknown, file.pi())?;
     let po = file.po().copy(alloc)?;
     let chains = copied_chains(alloc, file.chains())?;
     let mut shift_word = Vec::new(alloc);

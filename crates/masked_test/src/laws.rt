@@ -1,5 +1,5 @@
 //! Laws of masked tests: functions that do nothing, whose contracts are the laws.
-ghost use Rattle.masked_test.specs.Laws.{KnownFits, KnownVectors, MaskedFits, MaskedPasses};
+ghost use Rattle.masked_test.specs.Laws.{KnownFits, KnownNames, KnownVectors, MaskedFits, MaskedPasses};
 
 use stil_vectors::fitting_cycles;
 
@@ -8,7 +8,12 @@ pub fn known_vectors()
     ensures { KnownVectors }
 {}
 
-/// How wide they are.
+/// The names of the inputs of such a file.
+pub fn known_names()
+    ensures { KnownNames }
+{}
+
+/// How wide its cycles are.
 pub fn known_fits()
     ensures { KnownFits }
 {

@@ -5,8 +5,8 @@
 //!
 //! Gives: `known_file`, `masked_file`, `masked_test`.
 //! Proved: `known_file`: exactly the file without the inputs; `masked_file`: exactly the masked test; `masked_test`: the one after the other; the laws: the
-//! file without the inputs has the cycles without what drives these; how wide these and those of a masked test are; the good netlist is known to meet each
-//! strobe of its masked test.
+//! file without the inputs has the cycles without what drives these, and names the known inputs of a netlist that it fits; how wide these cycles and those
+//! of a masked test are; the good netlist is known to meet each strobe of its masked test.
 //! Neither: time.
 #![tactic(auto)]
 
@@ -17,5 +17,5 @@ mod masking;
 mod words;
 
 pub use knowing::known_file;
-pub use laws::{known_fits, known_vectors, masked_fits, masked_passes};
+pub use laws::{known_fits, known_names, known_vectors, masked_fits, masked_passes};
 pub use masking::{masked_file, masked_test};

@@ -3,7 +3,7 @@ use Rattle.statement.specs.Benches.{Text}
 use Rattle.unknown_inputs.specs.Unknowns.{known_part}
 use Rattle.masked_test.specs.inner.Words.{known_one}
 use Rattle.masked_test.proofs.LoopLemmas.{known_done, names_more}
-use Rattle.masked_test.proofs.knowing.known_names.Goals as goal
+use Rattle.masked_test.proofs.knowing.named_known.Goals as goal
 
 pub loop-k-init : goal.loop-k-init
 loop-k-init c = ap (λ (names : List Text). names ++ known_part c.args.unknown.now c.args.all.now) c.new-names.ensures
