@@ -1,11 +1,6 @@
 use Rattle.std.proofs.Common.{◌≡◌, ◌++◌, drop}
-<<<<<<< HEAD:crates/masked_test/proofs/knowing/known_names/Invariants.antt
 use Rattle.unknown_inputs.specs.Unknowns.{known_part}
-use Rattle.masked_test.proofs.knowing.known_names.Given as goal
-=======
-use Rattle.masked_test.specs.Unknowns.{known_part}
 use Rattle.masked_test.proofs.knowing.named_known.Given as goal
->>>>>>> main:crates/masked_test/proofs/knowing/named_known/Invariants.antt
 
 abbrev pub invariant-loop-k : goal.invariant-loop-k
 invariant-loop-k l = l.names ++ known_part (drop l.k l.unknown) (drop l.k l.all) ≡ known_part l.unknown l.all
