@@ -12,7 +12,7 @@ use Rattle.grade.proofs.spreading.grades_in.Goals as goal
 pub grades_of-requires : goal.grades_of-requires
 grades_of-requires g c =
     let file = c.args.file.now in
-    subst (λ (n : Netlist). All (IsCycleOf n) (vectors_in file)) (sym c.requires.core) (c.fitting_cycles.ensures file c.args.scanned.now.netlist c.sound.ensures c.requires.fits)
+    record { fits = subst (λ (n : Netlist). All (IsCycleOf n) (vectors_in file)) (sym c.requires.core) (c.fitting_cycles.ensures file c.args.scanned.now.netlist c.sound.ensures c.requires.fits) }
 
 pub returns : goal.returns
 returns g c =
