@@ -1,5 +1,5 @@
 -- What three-valued play shows on the opened netlist allows what the netlist shows, whatever the unknown inputs have.
-use Rattle.std.proofs.Common.{◌≡◌, ℕ, suc, zero, ◌+◌, ◌<◌, ◌≤◌, Bool, true, false, not, cond, ◌&&◌, List, [], ◌∷◌, ◌++◌, map, length, replicate, Option, Some, None, IsTrue, refl, sym, ◌∙◌, ap, subst, arith, eqb, length-append}
+use Rattle.std.proofs.Common.{◌≡◌, ℕ, ◌+◌, Bool, true, false, cond, List, [], ◌∷◌, ◌++◌, map, length, replicate, Option, Some, None, refl, sym, ◌∙◌, ap, subst, arith, eqb, length-append}
 use Rattle.std.specs.List.{All, AllZip, Contains, flat_map}
 use Rattle.std.proofs.lemmas.Bool.{and_left, ne_eqb}
 use Rattle.std.proofs.lemmas.List.{length-map, replicate-append-replicate}
@@ -9,9 +9,9 @@ use Rattle.statement.specs.declared.lines.Line.{Line}
 use Rattle.statement.specs.declared.lines.Line.TheVariants.{Stem, Pin, Out}
 use Rattle.statement.specs.declared.lines.Fault.{Fault}
 use Rattle.statement.specs.Netlists.{Definition, Netlist, cells, gates}
-use Rattle.statement.specs.Values.{Settles, is_line, stuck, with_fault, bits, bit_table, outs, next, pins_of, known, allows}
+use Rattle.statement.specs.Values.{Settles, is_line, stuck, bits, bit_table, outs, next, pins_of, known, allows}
 use Rattle.statement.specs.Runs.{Cycle, Ticks, Runs}
-use Rattle.netlist.specs.Conditions.{IsClosed, IsNumbered, IsSound}
+use Rattle.netlist.specs.Conditions.{IsClosed, IsNumbered}
 use Rattle.netlist.specs.Netlist.{IsAcyclic}
 use Rattle.netlist.specs.Lines.{IsLineOf, IsFaultOf}
 use Rattle.netlist.specs.ThreeValues.{AreAllowed}
@@ -23,7 +23,7 @@ use Rattle.scan_play.specs.Playing.{PlayRuns}
 use Rattle.scan_play.proofs.Shifting.{zip_length}
 use Rattle.scan_play.proofs.RunLaws.{xs_allow}
 use Rattle.unknown_inputs.specs.Unknowns.{Unknowns, known_part, unknown_part, IsFilled}
-use Rattle.unknown_inputs.specs.Opened.{line_by, fault_by, fault_or_none_by, opened_number, fault_opened, reads_itself, definition_by, opened}
+use Rattle.unknown_inputs.specs.Opened.{opened_number, fault_opened, reads_itself, definition_by, opened}
 use Rattle.unknown_inputs.specs.Laws.{OpenedAllows}
 use Rattle.unknown_inputs.proofs.KnownParts.{unknown_member, merged, zip_merged, merged_allowed}
 use Rattle.unknown_inputs.proofs.Numbers.{opened_one_to_one}

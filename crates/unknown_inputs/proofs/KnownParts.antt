@@ -1,9 +1,7 @@
 -- The known and the unknown part of a list, and a list of both.
-use Rattle.std.proofs.Common.{◌≡◌, ℕ, suc, zero, ◌+◌, ◌≤◌, ◌⊎◌, Bool, true, false, List, [], ◌∷◌, ◌++◌, map, length, Some, slice_get, refl, ap, inl, inr, arith}
+use Rattle.std.proofs.Common.{◌≡◌, ℕ, suc, zero, ◌+◌, ◌≤◌, Bool, true, false, List, [], ◌∷◌, map, length, Some, refl, ap, inl, inr, arith}
 use Rattle.std.specs.List.{AllZip, Contains}
-use Rattle.std.proofs.lemmas.List.{nil_from_length}
-use Rattle.netlist.proofs.Lists.{contains_head, contains_tail, contains_cases, contains_nil}
-use Rattle.statement.specs.declared.kinds.Tri.{Tri}
+use Rattle.netlist.proofs.Lists.{contains_tail, contains_cases, contains_nil}
 use Rattle.statement.specs.declared.kinds.Tri.TheVariants.{X}
 use Rattle.statement.specs.Patterns.{Holds, Obeys}
 use Rattle.statement.specs.Values.{known}

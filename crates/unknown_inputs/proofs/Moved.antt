@@ -1,17 +1,16 @@
 -- A netlist whose signals have other numbers, one to one, and which has cells beside that read themselves: what settles and what is seen there.
-use Rattle.std.proofs.Common.{◌≡◌, ℕ, ◌+◌, Bool, true, false, not, cond, ◌&&◌, List, [], ◌∷◌, ◌++◌, map, length, Option, Some, None, refl, sym, ◌∙◌, ap, inl, inr, arith, eqb}
+use Rattle.std.proofs.Common.{◌≡◌, ℕ, ◌+◌, Bool, true, false, cond, ◌&&◌, List, [], ◌∷◌, ◌++◌, map, Option, Some, None, refl, sym, ◌∙◌, ap, inl, inr, eqb}
 use Rattle.std.specs.List.{All, AllZip, Contains, filter, flat_map}
 use Rattle.std.proofs.lemmas.Bool.{cases_eq, eq-eqb, ne_eqb}
-use Rattle.std.proofs.lemmas.List.{append-nil}
 use Rattle.std.proofs.lemmas.List.Concat.{flat_map-append}
 use Rattle.std.proofs.lemmas.List.Elements.{All-nil, All-cons, All-head, All-tail, filter-append}
 use Rattle.statement.specs.declared.lines.Line.{Line}
 use Rattle.statement.specs.declared.lines.Line.TheVariants.{Stem, Pin, Out}
 use Rattle.statement.specs.declared.lines.Fault.{Fault}
-use Rattle.statement.specs.Netlists.{Definition, Netlist, is_cell, cells, gates}
-use Rattle.statement.specs.Values.{Table, is_line, stuck, with_fault, on_pins, pins_of, outs, next}
+use Rattle.statement.specs.Netlists.{Definition, is_cell}
+use Rattle.statement.specs.Values.{Table, is_line, stuck, with_fault, on_pins, pins_of}
 use Rattle.netlist.specs.Netlist.{is_gate}
-use Rattle.netlist.proofs.Lists.{map_map, map_agree, All-from_contains, contains_head, contains_tail}
+use Rattle.netlist.proofs.Lists.{map_map, contains_head, contains_tail}
 use Rattle.unknown_inputs.specs.Opened.{line_by, fault_or_none_by, reads_itself, definition_by}
 
 -- ---- which cells and gates there are

@@ -1,27 +1,23 @@
 -- The opened netlist is a netlist: it has the netlist's numbers as signals, and reads what the netlist reads.
-use Rattle.std.proofs.Common.{◌≡◌, ◌≢◌, ℕ, ◌+◌, ◌<◌, ◌≤◌, ◌⊎◌, Bool, true, List, [], ◌∷◌, ◌++◌, map, length, get_or, refl, sym, ◌∙◌, ap, subst, inl, inr, arith, length-append}
-use Rattle.std.specs.List.{All, AllPairs, Contains, filter}
+use Rattle.std.proofs.Common.{◌≡◌, ◌≢◌, ℕ, ◌<◌, Bool, true, List, [], ◌∷◌, ◌++◌, map, length, get_or, refl, sym, ◌∙◌, ap, subst, inl, inr, arith, length-append}
+use Rattle.std.specs.List.{All, AllPairs, Contains}
 use Rattle.std.proofs.lemmas.Bool.{cases_lt}
 use Rattle.std.proofs.lemmas.List.{length-map, get_or-map, get_or_default, append_assoc, map-append}
 use Rattle.std.proofs.lemmas.List.Elements.{All-contains, All-map, All-get_or, Contains-append_cases, Contains-append_left, Contains-append_right}
-use Rattle.statement.specs.declared.kinds.Kind.TheVariants.{Dff}
-use Rattle.statement.specs.declared.lines.Line.{Line}
 use Rattle.statement.specs.declared.lines.Line.TheVariants.{Stem, Pin, Out}
-use Rattle.statement.specs.Netlists.{Definition, Netlist, is_cell, cells, gates, signals, name_of, IsName}
+use Rattle.statement.specs.Netlists.{Definition, Netlist, gates, signals, name_of, IsName}
 use Rattle.statement.specs.Runs.{numbers_from}
-use Rattle.netlist.specs.Netlist.{is_gate, IsLoop, IsOnLoop, IsAcyclic}
+use Rattle.netlist.specs.Netlist.{IsLoop, IsAcyclic}
 use Rattle.netlist.specs.Gates.{allows_pins}
-use Rattle.netlist.specs.Conditions.{IsNumbered, IsClosed, IsWellFormed, IsSized, IsSound}
-use Rattle.netlist.specs.Lines.{IsLineOf}
-use Rattle.netlist.proofs.Lists.{All-from_contains, contains_map, contains_filter, map_map, map_agree}
+use Rattle.netlist.specs.Conditions.{IsNumbered, IsClosed, IsWellFormed, IsSound}
+use Rattle.netlist.proofs.Lists.{All-from_contains, contains_map, map_map, map_agree}
 use Rattle.netlist.proofs.Placed.{signal_below, signal_from}
-use Rattle.netlist.proofs.Orders.{input_low}
 use Rattle.netlist.proofs.WellFormed.{read_is_signal, names_counted}
 use Rattle.scan_insert.proofs.Loopless.{map_contains, only_one}
-use Rattle.scan_insert.proofs.Numbers.{length-numbers_from, numbers_from-append, numbers_from_places}
+use Rattle.scan_insert.proofs.Numbers.{numbers_from-append, numbers_from_places}
 use Rattle.scan_insert.proofs.Soundness.{pairs_map}
 use Rattle.unknown_inputs.specs.Unknowns.{Unknowns, known_part, unknown_part}
-use Rattle.unknown_inputs.specs.Opened.{opened_number, opened_line, reads_itself, definition_by, opened}
+use Rattle.unknown_inputs.specs.Opened.{opened_number, reads_itself, definition_by, opened}
 use Rattle.unknown_inputs.specs.Laws.{OpenedIsSound, OpenedHasLines, KeepsNames}
 use Rattle.unknown_inputs.proofs.KnownParts.{parts_length, known_part-map, known_member, unknown_member}
 use Rattle.unknown_inputs.proofs.Numbers.{opened_one_to_one, number_past, number_low, input_is, known_renumbered, unknown_renumbered, definition_stays}

@@ -1,5 +1,5 @@
 -- What the player answers of the opened netlist, and what is redundant while the unknown inputs have 0.
-use Rattle.std.proofs.Common.{◌≡◌, ℕ, suc, zero, ◌≤◌, ◌⊎◌, Bool, true, false, not, List, [], ◌∷◌, map, length, get_or, replicate, Option, Some, None, slice_get, slice_index_or, IsTrue, refl, sym, ◌∙◌, ap, subst, inl, inr, arith}
+use Rattle.std.proofs.Common.{◌≡◌, ℕ, suc, ◌≤◌, ◌⊎◌, Bool, true, false, not, List, [], ◌∷◌, map, length, get_or, replicate, Option, Some, None, slice_get, slice_index_or, IsTrue, refl, sym, ◌∙◌, ap, subst, inl, inr, arith}
 use Rattle.std.specs.List.{All, AllZip}
 use Rattle.std.proofs.lemmas.List.{length-map, length-replicate}
 use Rattle.std.proofs.lemmas.List.Elements.{All-nil, All-cons, All-head, All-tail}
@@ -8,19 +8,17 @@ use Rattle.statement.specs.declared.kinds.Tri.TheVariants.{X}
 use Rattle.statement.specs.declared.lines.Fault.{Fault}
 use Rattle.statement.specs.Netlists.{Netlist, cells}
 use Rattle.statement.specs.Patterns.{Holds, Obeys}
-use Rattle.statement.specs.Values.{bit_table, known, allows}
+use Rattle.statement.specs.Values.{bit_table, allows}
 use Rattle.statement.specs.Runs.{Cycle, Runs, strobe_at, shown_at}
-use Rattle.netlist.specs.Conditions.{IsSound}
-use Rattle.netlist.specs.Lines.{IsFaultOf}
 use Rattle.netlist.specs.ThreeValues.{AreAllowed}
 use Rattle.tri.specs.Settled.{tri_table}
 use Rattle.scan_play.specs.Cycles.{IsCycleOf}
-use Rattle.scan_play.specs.Playing.{IsStrobeMet, PlayRuns}
+use Rattle.scan_play.specs.Playing.{IsStrobeMet}
 use Rattle.scan_play.proofs.RunLaws.{some_run, run_row_length, allowed_bit, bit_at}
 use Rattle.scan_play.proofs.TriLaws.{value_where_strobed}
-use Rattle.unknown_inputs.specs.Unknowns.{Unknowns, known_part, IsFilled, PassesWhatever, FailsWhateverAt, holds_at_zero, IsUntold}
+use Rattle.unknown_inputs.specs.Unknowns.{Unknowns, known_part, IsFilled, holds_at_zero}
 use Rattle.unknown_inputs.specs.Opened.{opened_number, fault_opened, opened}
-use Rattle.unknown_inputs.specs.Laws.{OpenedTells, OpenedTellsTheTruth, HeldUnknownIsUntold}
+use Rattle.unknown_inputs.specs.Laws.{OpenedTellsTheTruth, HeldUnknownIsUntold}
 use Rattle.unknown_inputs.proofs.KnownParts.{merged, length-merged, known_part-merged, merged_obeys}
 use Rattle.unknown_inputs.proofs.Above.{opened_allows}
 

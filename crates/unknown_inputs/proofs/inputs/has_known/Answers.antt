@@ -1,4 +1,4 @@
-use Rattle.std.proofs.Common.{◌≡◌, ◌<◌, ◌≤◌, length, subst, sym, ◌∙◌, List, ℕ}
+use Rattle.std.proofs.Common.{◌<◌, ◌≤◌, length, subst, sym, ◌∙◌, List, ℕ}
 use Rattle.unknown_inputs.specs.Unknowns.{known_part}
 use Rattle.unknown_inputs.proofs.Making.{skipped, none_found}
 use Rattle.unknown_inputs.proofs.inputs.has_known.Goals as goal

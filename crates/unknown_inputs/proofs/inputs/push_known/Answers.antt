@@ -1,4 +1,4 @@
-use Rattle.std.proofs.Common.{◌≡◌, ◌++◌, drop, sym, ◌∙◌, ap, append-nil}
+use Rattle.std.proofs.Common.{◌++◌, drop, sym, ◌∙◌, ap, append-nil}
 use Rattle.unknown_inputs.proofs.Making.{known_none}
 use Rattle.unknown_inputs.proofs.inputs.push_known.Goals as goal
 

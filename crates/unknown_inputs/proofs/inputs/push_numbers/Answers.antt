@@ -1,4 +1,4 @@
-use Rattle.std.proofs.Common.{◌≡◌, ℕ, ◌+◌, ◌<◌, ◌≤◌, Bool, false, List, length, get_or, refl, sym, ◌∙◌, ap, arith, Vec, Global}
+use Rattle.std.proofs.Common.{◌≡◌, ℕ, ◌<◌, List, length, get_or, sym, ◌∙◌, ap, arith, Vec, Global}
 use Rattle.std.proofs.lemmas.List.{get_or_default}
 use Rattle.unknown_inputs.proofs.Making.{number_known, number_unknown}
 use Rattle.unknown_inputs.proofs.inputs.push_numbers.Goals as goal

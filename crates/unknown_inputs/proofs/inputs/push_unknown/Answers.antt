@@ -1,4 +1,4 @@
-use Rattle.std.proofs.Common.{◌≡◌, ◌++◌, drop, sym, ◌∙◌, ap, append-nil}
+use Rattle.std.proofs.Common.{◌++◌, drop, sym, ◌∙◌, ap, append-nil}
 use Rattle.unknown_inputs.proofs.Making.{unknown_none}
 use Rattle.unknown_inputs.proofs.inputs.push_unknown.Goals as goal
 
