@@ -8,3 +8,4 @@ pub mod ShiftLemmas
 pub mod CountedLemmas
 pub mod PackLemmas
 pub mod ApartLemmas
+pub mod ShownLemmas

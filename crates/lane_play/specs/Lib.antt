@@ -1,3 +1,4 @@
 pub mod Judged
 pub mod Counted
+pub mod Shown
 pub mod inner

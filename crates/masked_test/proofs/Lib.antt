@@ -1,0 +1,9 @@
+mod KnownLemmas
+mod KnownCycles
+mod KnownFiles
+mod MetLemmas
+mod WordLemmas
+mod ItemLemmas
+mod FormLemmas
+mod MaskLemmas
+mod LoopLemmas

@@ -1,0 +1,4 @@
+pub mod Known
+pub mod Masked
+pub mod Laws
+pub mod inner
