@@ -19,7 +19,8 @@ pub(crate) fn push_numbered(
 {
     out.extend_from_slice(word)?;
     out.extend_from_slice(Buffer::new().format(number).as_bytes())?;
-    out.push(mark)
+    out.push(mark)?;
+    Ok(())
 }
 
 /// The number between a word and a byte at the front, and what stands behind them.

@@ -1,0 +1,8 @@
+pub mod SiteLines
+pub mod Sites
+pub mod Grades
+pub mod Truth
+pub mod UnknownNames
+pub mod Once
+pub mod Passing
+pub mod Agreeing

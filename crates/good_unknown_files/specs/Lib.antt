@@ -1,0 +1,5 @@
+pub mod GoodUnknownFiles
+pub mod Clauses
+pub mod Theorem
+pub mod Checks
+pub mod Laws
