@@ -1,0 +1,5 @@
+pub mod SiteLines
+pub mod KnownParts
+mod SameTexts
+mod KnownWidths
+mod Driven
