@@ -1,4 +1,3 @@
-pub mod SiteLines
 pub mod Sites
 pub mod Grades
 pub mod Truth

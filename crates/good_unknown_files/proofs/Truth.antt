@@ -31,11 +31,11 @@ use Rattle.scan_insert.specs.Scanned.{AreChainsOf, line_at, scanned_of, sites_of
 use Rattle.scan_play.specs.Cycles.{IsCycleOf}
 use Rattle.scan_play.specs.Laws.{NoSequenceDetectsRedundant}
 use Rattle.scan_play.proofs.Widths.{valid_fault}
-use Rattle.stil_vectors.specs.Laws.{FittingCycles}
 use Rattle.good_files.proofs.Chains.{behaves, dealt}
 use Rattle.chain_test.specs.Hardware.{at_site}
 use Rattle.grade.specs.declared.grade.Grade.{Grade}
 use Rattle.grade.specs.declared.grade.Grade.TheVariants as grade
+use Rattle.known_tests.specs.Laws.{KnownCycles, SitesAreLines}
 use Rattle.unknown_inputs.specs.Laws.{HeldUnknownIsUntold, OpenedAllows, OpenedTellsTheTruth}
 use Rattle.unknown_inputs.specs.Opened.{opened}
 use Rattle.unknown_inputs.specs.Unknowns.{IsUntold, PassesWhatever, Unknowns, holds_at_zero}
@@ -43,7 +43,6 @@ use Rattle.unknown_report.specs.declared.claims.Claim.{Claim}
 use Rattle.good_unknown_files.specs.GoodUnknownFiles.{AreFindings, AreGoodUnknownFiles, HasClosed, IsOpenGrade, UnknownContents, chip_in, claim_of, claims_in, claims_of, unknown_chains_in}
 use Rattle.good_unknown_files.specs.Theorem.{ClaimComesTrue, IsToldByNoTest, UnknownTheorem}
 use Rattle.good_unknown_files.proofs.Grades.{fails_whatever, passes_whatever}
-use Rattle.good_unknown_files.proofs.SiteLines.{site_line}
 use Rattle.good_unknown_files.proofs.Sites.{named, stands_there}
 
 -- the laws that are cited
@@ -55,7 +54,8 @@ pub record Laws : Type 0 where
   pub alike : DetectedAlike
   pub shown : ShownIsRedundant
   pub redundant : NoSequenceDetectsRedundant
-  pub fitting : FittingCycles
+  pub fitting : KnownCycles
+  pub there : SitesAreLines
   pub allows : OpenedAllows
   pub tells : OpenedTellsTheTruth
   pub untold : HeldUnknownIsUntold
@@ -137,7 +137,7 @@ module _ (laws : Laws) (n : Netlist) (sound : IsSound n) (chains : List (List �
     moved = at_site (sites_of n chains) f
 
     moved_line : IsLineOf chip moved.line
-    moved_line = site_line n sound chains of_cells f.line line
+    moved_line = laws.there n chains f.line sound of_cells line
 
     -- evidence of an equivalent fault shows it redundant
     untold : (evidence : List (Fault × Evidence)) (g : Fault) → IsEquivalent n f g → HasClosed n zeroed evidence g → IsUntold chip zeroed moved × IsToldByNoTest chip unknown holds moved
@@ -194,7 +194,7 @@ truth laws files c sound design good =
     let of_cells = dealt n c.said.chains t.scan.allowed in
     let chip_sound = laws.sound n chains sound design of_cells in
     let sites = laws.sites n chains sound of_cells in
-    let fit = laws.fitting c.file (opened chip t.unknown) good.stand.stil.is_file t.test.fits in
+    let fit = laws.fitting c.file chip t.unknown good.stand.stil.is_file t.test.fits in
     let none : (g : Fault) → None ≡ Some g → IsLineOf chip g.line = λ g e. cc in
     record {
       said = c.said;

@@ -16,7 +16,6 @@ use Rattle.scan_insert.specs.Scanned.{scanned_of, sites_of}
 use Rattle.scan_play.specs.Playing.{PlaysAs}
 use Rattle.scan_play.specs.declared.played.Played.TheVariants.{Passes}
 use Rattle.stil_read.specs.Reading.{StandsFor}
-use Rattle.stil_vectors.specs.Fitting.{FitsNetlist}
 use Rattle.fault_collapse.specs.Classes.{AreClasses}
 use Rattle.fault_collapse.specs.Numbers.{Classes}
 use Rattle.evidence.specs.declared.kinds.Evidence.{Evidence}
@@ -29,6 +28,7 @@ use Rattle.chain_test.specs.Hardware.{at_site}
 use Rattle.grade.specs.Grades.{IsGraded}
 use Rattle.grade.specs.declared.grade.Grade.{Grade}
 use Rattle.grade.specs.declared.grade.Grade.TheVariants as grade
+use Rattle.known_tests.specs.Fitting.{FitsKnown}
 use Rattle.unknown_inputs.specs.Opened.{opened, opened_fault}
 use Rattle.unknown_inputs.specs.Unknowns.{Unknowns, holds_at_zero, known_part, unknown_part}
 use Rattle.unknown_report.specs.declared.claims.Claim.{Claim}
@@ -93,7 +93,7 @@ HasInputs c unknown holds = AreInputsSaid c.netlist (chip_in c) c.said unknown h
 -- The STIL file sets the known inputs alone, and the held ones as they are held. The good chip passes it whatever the unknown inputs have: played in three
 -- values on the opened netlist each strobe of a bit is met.
 pub record IsKnownTest (chip : Netlist) (unknown : Unknowns) (holds : Holds) (file : StilFile) : Type 0 where
-  pub fits : FitsNetlist file (opened chip unknown)
+  pub fits : FitsKnown file chip unknown
   pub obeys : All (λ (cycle : Cycle). Obeys (known_part unknown holds) cycle.drive) (vectors_in file)
   pub passes : PlaysAs (opened chip unknown) None (vectors_in file) Passes
 

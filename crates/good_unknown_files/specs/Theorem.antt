@@ -15,8 +15,8 @@ use Rattle.bench_text.specs.declared.refusal.Names.TheVariants.{Design}
 use Rattle.scan_insert.specs.Scanned.{scanned_of}
 use Rattle.scan_play.specs.Cycles.{IsCycleOf}
 use Rattle.stil_read.specs.Reading.{StandsFor}
-use Rattle.stil_vectors.specs.Fitting.{FitsNetlist}
 use Rattle.good_files.specs.GoodFiles.{AreHeldBy}
+use Rattle.known_tests.specs.Fitting.{FitsKnown}
 use Rattle.unknown_inputs.specs.Opened.{opened}
 use Rattle.unknown_inputs.specs.Unknowns.{FailsWhateverAt, IsUntold, PassesWhatever, Unknowns, holds_at_zero, known_part}
 use Rattle.unknown_report.specs.declared.claims.Claim.{Claim}
@@ -57,7 +57,7 @@ pub record UnknownTheorem (n : Netlist) (unknown : Unknowns) (holds : Holds) (ch
   pub unknown_are : said.unknown ≡ unknown_names n unknown
   pub holds_are : AreHeldBy n said.holds holds
   pub behaves : BehavesWithScanOff n (scanned_of n chains) chains
-  pub fits : FitsNetlist file (opened (scanned_of n chains) unknown)
+  pub fits : FitsKnown file (scanned_of n chains) unknown
   pub driven : All (λ (cycle : Cycle). Obeys (known_part unknown holds) cycle.drive) (vectors_in file)
   pub passes : PassesWhatever (scanned_of n chains) unknown None (vectors_in file)
   pub lines_are : said.lines ≡ claim_lines n (scanned_of n chains) (universe_of n) claims

@@ -5,11 +5,13 @@ use certificate::one_certificate;
 use evidence::shown_is_redundant;
 use fault_collapse::{classes_once, detected_alike};
 use fault_universe::faults_have_lines;
+use known_tests::{known_cycles, sites_are_lines};
 use scan_insert::laws::{scan_behaves, scanned_is_sound, sites_have_names};
 use scan_play::no_sequence_detects_redundant;
 use stil_read::laws::at_most_one;
-use stil_vectors::fitting_cycles;
-use unknown_inputs::{held_unknown_is_untold, opened_allows, opened_is_sound, opened_tells_the_truth};
+use unknown_inputs::{
+    held_unknown_is_untold, opened_allows, opened_is_sound, opened_tells_the_truth,
+};
 use unknown_report::unknown_texts_tell_reports;
 
 /// What good files claim of the chip comes true, whatever the unknown inputs have.
@@ -23,7 +25,8 @@ pub fn good_unknown_files_tell_the_truth()
     detected_alike();
     shown_is_redundant();
     no_sequence_detects_redundant();
-    fitting_cycles();
+    known_cycles();
+    sites_are_lines();
     opened_allows();
     opened_tells_the_truth();
     held_unknown_is_untold();

@@ -32,11 +32,7 @@ fn push_unless(left_out: bool, name: &[u8], names: &mut Texts) -> Result<(), All
 }
 
 /// The names of the known inputs.
-fn known_names(
-    alloc: Global,
-    netlist: &Netlist,
-    unknown: &[bool],
-) -> Result<Texts, AllocError>
+fn known_names(alloc: Global, netlist: &Netlist, unknown: &[bool]) -> Result<Texts, AllocError>
     ensures { IfOk result (λ names. names ≡ map (name_of netlist.now) (known_part unknown.now netlist.now.inputs)) }
 {
     netlist.sound();
