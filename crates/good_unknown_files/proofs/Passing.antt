@@ -1,7 +1,8 @@
 -- For good files the check has no other answer than how many faults there are.
-use Rattle.std.proofs.Common.{◌≡◌, ◌↔◌, ℕ, ◌∙◌, ◌⊎◌, inl, inr, Bool, List, length, take, Some, Ok, Err, refl, sym, ap, subst, arith}
+use Rattle.std.proofs.Common.{◌≡◌, ◌<◌, ◌↔◌, ℕ, zero, suc, ◌∙◌, ◌⊎◌, inl, inr, Bool, List, [], ◌∷◌, length, take, Some, Ok, Err, refl, sym, ap, subst, arith}
 use Rattle.std.specs.Prelude.{IsTrue, Result}
 use Rattle.std.specs.List.{All, AllZip, slice_get}
+use Rattle.std.proofs.lemmas.List.{length-map}
 use Rattle.std.proofs.lemmas.Option.{slice_get_within}
 use Rattle.statement.specs.declared.lines.Fault.{Fault}
 use Rattle.statement.specs.Benches.{Text}
@@ -20,6 +21,8 @@ use Rattle.scan_insert.specs.Scanned.{sites_of}
 use Rattle.stil_read.specs.Laws.{AtMostOne}
 use Rattle.fault_collapse.specs.Laws.{ClassesOnce}
 use Rattle.fault_collapse.specs.Numbers.{Classes}
+use Rattle.evidence.specs.declared.kinds.Evidence.{Evidence}
+use Rattle.good_files.specs.GoodFiles.{faults_in}
 use Rattle.good_files.specs.declared.answers.Checked.{Checked}
 use Rattle.good_files.specs.declared.answers.Checked.TheVariants.{Faults, False}
 use Rattle.good_files.specs.declared.answers.Clause.TheVariants as clause
@@ -101,6 +104,12 @@ module _ (laws : Laws) (c : UnknownContents) (sound : IsSound c.netlist) where
 
 -- ---- what is true of the claims excludes that a fault is named
 
+front_get : {X : Type 0} (m : ℕ) (xs : List X) (k : ℕ) → k < m → slice_get (take m xs) k ≡ slice_get xs k
+front_get zero xs k l = absurd (omega (arith, l))
+front_get (suc m) [] k l = refl
+front_get (suc m) (x ∷ xs) zero l = refl
+front_get (suc m) (x ∷ xs) (suc k) l = front_get m xs k (omega (arith, l))
+
 module _ (c : UnknownContents) (t : IsUnknownTested c) (are : AreTrueClaims c t) where
   none_named : (text : Text) → IsFalseClaim c t text → ⊥
   none_named text (inl other) = other.other (ap (λ (ls : List Text). slice_get ls other.place) are.lines)
@@ -109,7 +118,11 @@ module _ (c : UnknownContents) (t : IsUnknownTested c) (are : AreTrueClaims c t)
       let count = ap length are.lines in
       omega (arith, past, count)
   none_named text (inr (inr stray)) =
-      stray.first.stray (ap (λ (fs : List Fault). slice_get fs stray.first.place) (sym are.evidence) ∙ stray.first.at)
+      let within = slice_get_within (faults_in c.evidence) stray.first.place stray.first.fault stray.first.at in
+      let size : length (faults_in c.evidence) ≡ length c.evidence = length-map c.evidence (λ (p : Fault × Evidence). p.0) in
+      stray.first.stray
+      (sym (front_get (length c.evidence) (evident_in c t) stray.first.place (omega (arith, within, size)))
+      ∙ (ap (λ (fs : List Fault). slice_get fs stray.first.place) are.evidence ∙ stray.first.at))
 
 -- ---- good files
 
@@ -117,7 +130,7 @@ module _ (laws : Laws) (files : FiveFiles) (c : UnknownContents) (sound : IsSoun
   claims_true : (t : IsUnknownTested c) → AreTrueClaims c t
   claims_true t = record {
     lines = good.claims.lines ∙ sym (lines_same laws c sound design t good.tested);
-    evidence = good.claims.evidence ∙ sym (evidence_same laws c sound design t good.tested);
+    evidence = ap (take (length c.evidence)) (evidence_same laws c sound design t good.tested) ∙ good.claims.evidence;
   }
 
   totals_true : (t : IsUnknownTested c) → AreClaimTotals c t

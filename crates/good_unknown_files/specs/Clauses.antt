@@ -22,7 +22,7 @@ pub record IsFurtherLine (due lines : List Text) (text : Text) : Type 0 where
   pub before : take (length due) lines ≡ due
   pub further : slice_get lines (length due) ≡ Some text
 
--- the lines are those that are due, but the certificate isn't that of the classes with evidence, in order
+-- the lines are those that are due, but the certificate has evidence that isn't, in order, that of a class that has some
 pub record IsStrayEvidence (c : UnknownContents) (t : IsUnknownTested c) (text : Text) : Type 0 where
   pub lines : c.said.lines ≡ lines_due c t
   pub first : IsFirstStray c.netlist c.evidence (evident_in c t) text

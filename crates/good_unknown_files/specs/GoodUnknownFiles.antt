@@ -1,5 +1,5 @@
 -- The five files of a test with unknown inputs, what they stand for, and when they are good, whoever made them.
-use Rattle.std.specs.Prelude.{ℕ, ◌≡◌, ◌↔◌, ◌<◌, Bool, true, false, List, [], ◌∷◌, cond, length, map, slice_index_or, None, Some, Ok, IsTrue}
+use Rattle.std.specs.Prelude.{ℕ, ◌≡◌, ◌↔◌, ◌<◌, Bool, true, false, List, [], ◌∷◌, cond, length, map, slice_index_or, take, None, Some, Ok, IsTrue}
 use Rattle.std.specs.List.{All, AllZip}
 use Rattle.statement.specs.declared.lines.Fault.{Fault}
 use Rattle.statement.specs.Benches.{Text}
@@ -164,11 +164,10 @@ marked (mark ∷ marks) (x ∷ xs) = cond mark (x ∷ marked marks xs) (marked m
 abbrev pub evident_in : (c : UnknownContents) → IsUnknownTested c → List Fault
 evident_in c t = marked t.evident t.classes.representatives
 
--- Each fault has the line that says what has to be claimed of it, and there is no further line; each class with evidence has it in the certificate, in
--- order, and there is no other.
+-- Each fault has the line that says what has to be claimed of it, and there is no further line. The certificate has evidence of such classes alone, in order.
 pub record AreTrueClaims (c : UnknownContents) (t : IsUnknownTested c) : Type 0 where
   pub lines : c.said.lines ≡ lines_due c t
-  pub evidence : faults_in c.evidence ≡ evident_in c t
+  pub evidence : take (length c.evidence) (evident_in c t) ≡ faults_in c.evidence
 
 -- ---- the totals
 

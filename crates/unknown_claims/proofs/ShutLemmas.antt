@@ -1,5 +1,5 @@
 -- A class has closed evidence exactly where the ends of its first evidence say so.
-use Rattle.std.proofs.Common.{◌≡◌, ◌≢◌, ◌↔◌, ◌==◌, ℕ, inl, inr, List, [], ◌∷◌, map, Option, Some, None, refl, sym, ◌∙◌, ap}
+use Rattle.std.proofs.Common.{◌≡◌, ◌↔◌, List, [], ◌∷◌, map, Option, Some, None, refl, sym, ◌∙◌, ap}
 use Rattle.std.specs.Prelude.{IsTrue}
 use Rattle.std.specs.List.{AllZip}
 use Rattle.std.proofs.lemmas.Bool.{both_ways, eq-eqb, eqb-true}
@@ -9,18 +9,10 @@ use Rattle.statement.specs.Patterns.{Holds}
 use Rattle.redundancy_cert.specs.declared.counts.Counts.{Counts}
 use Rattle.evidence.specs.declared.kinds.Evidence.{Evidence}
 use Rattle.evidence.specs.Evidence.{Shows, open_ends}
-use Rattle.run_report.specs.Outcomes.{IsFirstOf}
-use Rattle.check_parts.specs.Ends.{IsEnds, IsFirstShown, NoFirstShown}
+use Rattle.check_parts.specs.Ends.{IsEnds}
+use Rattle.check_parts.proofs.FirstLemmas.{first_once}
 use Rattle.good_unknown_files.specs.GoodUnknownFiles.{HasClosed}
 use Rattle.unknown_claims.specs.inner.Marks.{is_shut}
-
--- a fault has one first evidence
-first_once : (ps : List (Fault × Evidence)) (f : Fault) (e g : Evidence) → IsFirstOf ps f e → IsFirstOf ps f g → e ≡ g
-first_once [] f e g p q = absurd p
-first_once (x ∷ ps) f e g (inl p) (inl q) = sym p.1 ∙ q.1
-first_once (x ∷ ps) f e g (inl p) (inr q) = absurd (q.0 p.0)
-first_once (x ∷ ps) f e g (inr p) (inl q) = absurd (p.0 q.0)
-first_once (x ∷ ps) f e g (inr p) (inr q) = first_once ps f e g p.1 q.1
 
 module _ (n : Netlist) (holds : Holds) (evidence : List (Fault × Evidence)) where
   one_shut : (f : Fault) (ends : Option Counts) → IsEnds n holds evidence f ends → IsTrue (is_shut ends) ↔ HasClosed n holds evidence f
