@@ -1,7 +1,7 @@
 //! What a test and its evidence show, and what has to be said of it.
 ghost use Rattle.std.specs.Prelude.{◌≡◌, IfOk};
 ghost use Rattle.fault_collapse.specs.Classes.{AreClasses};
-ghost use Rattle.unknown_check.specs.inner.Findings.{AreDue, AreDueBy, AreEvident, AreFound, IsUnknownTrial};
+ghost use Rattle.unknown_check.specs.inner.Findings.{AreDue, AreDueBy, AreEvident, AreFound, IsUnknownTrial, unknown_test_of};
 
 use crate::chips::OpenChip;
 use evidence::Evidence;
@@ -47,7 +47,7 @@ fn marks_of(
 ) -> Result<Vec<bool>, NoMemory>
     requires trial { IsUnknownTrial trial.now }
     requires classes { AreClasses trial.now.core.now classes.now }
-    ensures { IfOk result (λ v. AreEvident trial.now classes.now v.items) }
+    ensures { IfOk result (λ v. AreEvident (unknown_test_of trial.now) classes.now v.items) }
 {
     let at_zero = zeroed(alloc, trial.core, trial.holds, trial.unknown)?;
     let marks = evident_of(alloc, trial.core, &at_zero, trial.evidence, classes);
@@ -65,8 +65,8 @@ fn due_by(
     evident: &[bool],
 ) -> Result<Due, NoMemory>
     requires trial { IsUnknownTrial trial.now }
-    requires found { AreFound trial.now faults.now classes.now grades.now evident.now }
-    ensures { IfOk result (AreDueBy trial.now classes.now grades.now evident.now) }
+    requires found { AreFound (unknown_test_of trial.now) faults.now classes.now grades.now evident.now }
+    ensures { IfOk result (AreDueBy (unknown_test_of trial.now) classes.now grades.now evident.now) }
 {
     let claims = claims_of(alloc, classes, grades, evident)?;
     let pins = pin_names(alloc, trial.scanned.netlist())?;
@@ -90,7 +90,7 @@ fn due_by(
 /// What is due of a test: it is played in three values with each fault, and the evidence of each class is checked.
 pub(crate) fn due_of(alloc: Global, trial: &UnknownTrial<'_>) -> Result<Due, NoMemory>
     requires { IsUnknownTrial trial.now }
-    ensures { IfOk result (AreDue trial.now) }
+    ensures { IfOk result (AreDue (unknown_test_of trial.now)) }
 {
     faults_have_lines();
     faults_have_signals();
