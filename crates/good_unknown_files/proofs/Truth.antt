@@ -15,7 +15,7 @@ use Rattle.netlist.specs.Conditions.{IsSound}
 use Rattle.netlist.specs.Designs.{IsDesign}
 use Rattle.netlist.specs.Detection.{IsRedundant}
 use Rattle.netlist.specs.Holds.{AreHoldsOf}
-use Rattle.netlist.specs.Lines.{IsLineOf}
+use Rattle.netlist.specs.Lines.{IsFaultOf, IsLineOf}
 use Rattle.fault_universe.specs.Laws.{FaultsHaveLines}
 use Rattle.fault_universe.proofs.Elements.{contains_at}
 use Rattle.fault_collapse.specs.Joined.{IsEquivalent}
@@ -34,7 +34,7 @@ use Rattle.scan_play.proofs.Widths.{valid_fault}
 use Rattle.good_files.proofs.Chains.{behaves, dealt}
 use Rattle.chain_test.specs.Hardware.{at_site}
 use Rattle.grade.specs.declared.grade.Grade.{Grade}
-use Rattle.grade.specs.declared.grade.Grade.TheVariants as grade
+use Rattle.grade.specs.declared.grade.Grade.TheVariants as told
 use Rattle.known_tests.specs.Laws.{KnownCycles, SitesAreLines}
 use Rattle.unknown_inputs.specs.Laws.{HeldUnknownIsUntold, OpenedAllows, OpenedTellsTheTruth}
 use Rattle.unknown_inputs.specs.Opened.{opened}
@@ -152,11 +152,11 @@ module _ (laws : Laws) (n : Netlist) (sound : IsSound n) (chains : List (List �
 
     pub comes_true : (evidence : List (Fault × Evidence)) (g : Fault) → IsEquivalent n f g → (one : Grade) → IsOpenGrade n chains unknown cycles f one
         → (evident : Bool) → (evident ≡ true → HasClosed n zeroed evidence g) → ClaimComesTrue chip unknown holds cycles moved (claim_of one evident)
-    comes_true evidence g same (grade.Detected c o) graded evident closed = fails_whatever chip chip_sound unknown moved moved_line cycles laws.allows c o graded
-    comes_true evidence g same grade.Undetected graded false closed = passes_whatever chip chip_sound unknown moved moved_line cycles laws.tells fit graded
-    comes_true evidence g same grade.Undetected graded true closed = untold evidence g same (closed refl)
-    comes_true evidence g same grade.Unknown graded false closed = tt
-    comes_true evidence g same grade.Unknown graded true closed = untold evidence g same (closed refl)
+    comes_true evidence g same (told.Detected c o) graded evident closed = fails_whatever chip chip_sound unknown moved moved_line cycles laws.allows c o graded
+    comes_true evidence g same told.Undetected graded false closed = passes_whatever chip chip_sound unknown moved moved_line cycles laws.tells fit graded
+    comes_true evidence g same told.Undetected graded true closed = untold evidence g same (closed refl)
+    comes_true evidence g same told.Unknown graded false closed = tt
+    comes_true evidence g same told.Unknown graded true closed = untold evidence g same (closed refl)
 
   -- the class of a place, and its evidence where it is marked
   module _ (evidence : List (Fault × Evidence)) (classes : Classes) (grades : List Grade) (evident : List Bool)
@@ -195,7 +195,7 @@ truth laws files c sound design good =
     let chip_sound = laws.sound n chains sound design of_cells in
     let sites = laws.sites n chains sound of_cells in
     let fit = laws.fitting c.file chip t.unknown good.stand.stil.is_file t.test.fits in
-    let none : (g : Fault) → None ≡ Some g → IsLineOf chip g.line = λ g e. cc in
+    let none : IsFaultOf chip None = λ g e. cc in
     record {
       said = c.said;
       claims = claims_in c t;

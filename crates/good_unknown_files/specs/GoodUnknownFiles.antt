@@ -27,7 +27,7 @@ use Rattle.good_files.specs.GoodFiles.{AreHeldBy, IsScanText, faults_in}
 use Rattle.chain_test.specs.Hardware.{at_site}
 use Rattle.grade.specs.Grades.{IsGraded}
 use Rattle.grade.specs.declared.grade.Grade.{Grade}
-use Rattle.grade.specs.declared.grade.Grade.TheVariants as grade
+use Rattle.grade.specs.declared.grade.Grade.TheVariants as told
 use Rattle.known_tests.specs.Fitting.{FitsKnown}
 use Rattle.unknown_inputs.specs.Opened.{opened, opened_fault}
 use Rattle.unknown_inputs.specs.Unknowns.{Unknowns, holds_at_zero, known_part, unknown_part}
@@ -113,11 +113,11 @@ HasClosed n holds evidence representative = (e : Evidence) × IsFirstOf evidence
 
 -- A fault that is detected is claimed so. Else it is redundant where its class has evidence, or what its grade says.
 abbrev pub claim_of : Grade → Bool → Claim
-claim_of (grade.Detected cycle output) evident = claim.Detected cycle output
-claim_of grade.Undetected false = claim.Undetected
-claim_of grade.Undetected true = claim.Redundant
-claim_of grade.Unknown false = claim.Unknown
-claim_of grade.Unknown true = claim.Redundant
+claim_of (told.Detected cycle output) evident = claim.Detected cycle output
+claim_of told.Undetected false = claim.Undetected
+claim_of told.Undetected true = claim.Redundant
+claim_of told.Unknown false = claim.Unknown
+claim_of told.Unknown true = claim.Redundant
 
 -- of faults of these classes and grades, where of each class is known whether it has evidence
 abbrev pub claims_of : List Bool → List ℕ → List Grade → List Claim
