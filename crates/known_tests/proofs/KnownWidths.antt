@@ -52,7 +52,7 @@ mapped_behind f g low first (suc k) same le =
 -- ---- a netlist of a file's pins alone
 
 module _ (ins outs : List (List ℕ)) (definitions : List Definition) where
-  pins_alone : Netlist
+  abbrev pins_alone : Netlist
   pins_alone = record {
     names = ins ++ outs;
     inputs = numbers_from 0 (length ins);
