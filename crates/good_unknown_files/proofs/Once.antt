@@ -37,11 +37,11 @@ some_same x y e = cc
 -- ---- of one run
 
 module _ (cycles : List Cycle) (shown : List (List Tri)) where
-  met_not_wrong : (c o : ℕ) → IsStrobeMet cycles shown c o → IsWrong known cycles shown c o → ⊥
+  pub met_not_wrong : (c o : ℕ) → IsStrobeMet cycles shown c o → IsWrong known cycles shown c o → ⊥
   met_not_wrong c o (inl none) w = bit_not_x w.0 (sym w.1 ∙ none)
   met_not_wrong c o (inr met) w = not_itself w.0 (some_same (known (not w.0)) (known w.0) (sym w.2 ∙ (met ∙ ap (λ (v : Tri). Some v) w.1)))
 
-  met_not_unknown : ((c o : ℕ) → IsStrobeMet cycles shown c o) → HasUnknown cycles shown → ⊥
+  pub met_not_unknown : ((c o : ℕ) → IsStrobeMet cycles shown c o) → HasUnknown cycles shown → ⊥
   met_not_unknown met u = elim (met u.cycle u.output) [
     | inl none ↦ bit_not_x u.bit (sym u.strobe ∙ none)
     | inr is ↦ bit_not_x u.bit (sym (some_same X (known u.bit) (sym u.is_shown ∙ (is ∙ ap (λ (v : Tri). Some v) u.strobe))))
