@@ -1,5 +1,5 @@
 -- Unknown inputs by name: they are named as inputs that are held at 0 are.
-use Rattle.std.proofs.Common.{◌≡◌, ℕ, suc, Bool, true, false, cond, List, [], ◌∷◌, ◌++◌, length, map, Option, Some, None, refl, sym, ◌∙◌, ap, arith}
+use Rattle.std.proofs.Common.{◌≡◌, ℕ, Bool, true, false, List, [], ◌∷◌, length, map, Some, None, refl, sym, ◌∙◌, ap, arith}
 use Rattle.std.specs.List.{flat_map, zip}
 use Rattle.std.proofs.lemmas.List.{length-map}
 use Rattle.statement.specs.Netlists.{Netlist, name_of}
@@ -10,20 +10,7 @@ use Rattle.run_report.specs.Heads.{hold_at, holds_named}
 use Rattle.good_files.proofs.Held.{held_once}
 use Rattle.unknown_inputs.specs.Unknowns.{Unknowns, unknown_part}
 use Rattle.good_unknown_files.specs.GoodUnknownFiles.{unknown_names}
-
-abbrev pub at_zero : List ℕ → Hold
-at_zero name = record { name = name; bit = false }
-
-abbrev pub zero_hold : Bool → Option Bool
-zero_hold unknown = cond unknown (Some false) None
-
--- the unknown inputs alone are held
-abbrev pub zero_holds : Unknowns → Holds
-zero_holds = map zero_hold
-
-abbrev pub is_held : Option Bool → Bool
-is_held None = false
-is_held (Some bit) = true
+use Rattle.good_unknown_files.specs.inner.Named.{at_zero, is_held, zero_hold, zero_holds}
 
 held_back : (us : Unknowns) → map is_held (zero_holds us) ≡ us
 held_back [] = refl

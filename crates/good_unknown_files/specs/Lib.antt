@@ -3,3 +3,4 @@ pub mod Clauses
 pub mod Theorem
 pub mod Checks
 pub mod Laws
+pub mod inner

@@ -11,7 +11,8 @@ use Rattle.good_files.proofs.Held.{held_once}
 use Rattle.unknown_inputs.specs.Unknowns.{Unknowns, unknown_part}
 use Rattle.unknown_report.specs.declared.reports.UnknownReport.{UnknownReport}
 use Rattle.good_unknown_files.specs.GoodUnknownFiles.{AreInputsSaid}
-use Rattle.good_unknown_files.proofs.UnknownNames.{at_zero, held_names, is_held, named_at_zero, unknown_once, zero_hold, zero_holds}
+use Rattle.good_unknown_files.specs.inner.Named.{at_zero, is_held, zero_hold, zero_holds}
+use Rattle.good_unknown_files.proofs.UnknownNames.{held_names, named_at_zero, unknown_once}
 use Rattle.unknown_check.specs.inner.Inputs.{AreUnknownNamed, IsInputsOf}
 
 name_back : (names : List (List ℕ)) → map (λ (h : Hold). h.name) (map at_zero names) ≡ names

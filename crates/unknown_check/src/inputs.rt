@@ -5,7 +5,7 @@ ghost use Rattle.statement.specs.Patterns.{Holds as HoldsOf};
 ghost use Rattle.netlist.specs.Holds.{AreHoldsOf};
 ghost use Rattle.unknown_inputs.specs.Unknowns.{Unknowns, unknown_part};
 ghost use Rattle.unknown_report.specs.declared.reports.UnknownReport.{UnknownReport as Kept};
-ghost use Rattle.good_unknown_files.proofs.UnknownNames.{at_zero, is_held};
+ghost use Rattle.good_unknown_files.specs.inner.Named.{at_zero, is_held};
 ghost use Rattle.good_unknown_files.specs.GoodUnknownFiles.{AreInputsSaid};
 ghost use Rattle.unknown_check.specs.inner.Inputs.{AreUnknownNamed, IsInputsOf};
 
