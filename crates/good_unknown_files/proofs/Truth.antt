@@ -1,8 +1,9 @@
 -- What good files say comes true, whatever the unknown inputs have.
-use Rattle.std.proofs.Common.{◌≡◌, ◌<◌, ◌↔◌, ℕ, zero, suc, Bool, true, false, List, [], ◌∷◌, length, map, Some, None, refl, sym, ◌∙◌, ap, subst, arith}
+use Rattle.std.proofs.Common.{◌≡◌, ◌<◌, ◌≤◌, ◌↔◌, ℕ, zero, suc, Bool, true, false, List, [], ◌∷◌, length, map, Some, None, refl, sym, ◌∙◌, ap, subst, arith, length-append}
 use Rattle.std.specs.List.{All, AllZip, slice_get}
 use Rattle.std.specs.Prelude.{IsTrue, slice_index_or}
 use Rattle.std.proofs.lemmas.Option.{get_or_from_slice_get, slice_get_within}
+use Rattle.std.proofs.lemmas.List.{length-map}
 use Rattle.std.proofs.lemmas.List.Elements.{All-get_or}
 use Rattle.statement.specs.declared.lines.Fault.{Fault}
 use Rattle.statement.specs.Netlists.{Netlist}
@@ -27,7 +28,7 @@ use Rattle.evidence.specs.Laws.{ShownIsRedundant}
 use Rattle.run_report.proofs.ClassLemmas.{equivalent}
 use Rattle.scan_insert.specs.Laws.{ScanBehaves, ScannedIsSound}
 use Rattle.scan_insert.specs.Named.{SitesHaveNames}
-use Rattle.scan_insert.specs.Scanned.{AreChainsOf, line_at, scanned_of, sites_of}
+use Rattle.scan_insert.specs.Scanned.{AreChainsOf, line_at, naming_of, scanned_of, sites_of}
 use Rattle.scan_play.specs.Cycles.{IsCycleOf}
 use Rattle.scan_play.specs.Laws.{NoSequenceDetectsRedundant}
 use Rattle.scan_play.proofs.Widths.{valid_fault}
@@ -67,6 +68,13 @@ zero_size [] holds = refl
 zero_size (u ∷ us) [] = refl
 zero_size (true ∷ us) (h ∷ hs) = ap suc (zero_size us hs)
 zero_size (false ∷ us) (h ∷ hs) = ap suc (zero_size us hs)
+
+-- all inputs of the netlist are inputs of the scanned one
+all_inputs : (n : Netlist) (chains : List (List ℕ)) → length n.inputs ≤ length (scanned_of n chains).inputs
+all_inputs n [] = omega arith
+all_inputs n (chain ∷ rest) =
+    let s = naming_of n (chain ∷ rest) in
+    omega (arith, length-append (map s.stem n.inputs) (s.enable ∷ s.scan_in), length-map n.inputs s.stem)
 
 -- ---- lists
 
@@ -125,7 +133,7 @@ marked_there (b ∷ bs) (suc class) e = marked_there bs class e
 -- ---- what is claimed of a fault comes true of the one at its site
 
 module _ (laws : Laws) (n : Netlist) (sound : IsSound n) (chains : List (List ℕ)) (of_cells : AreChainsOf n chains) (chip_sound : IsSound (scanned_of n chains))
-    (unknown : Unknowns) (holds : Holds) (held : AreHoldsOf n holds) (cycles : List Cycle) (fit : All (IsCycleOf (opened (scanned_of n chains) unknown)) cycles) where
+    (unknown : Unknowns) (size : length unknown ≡ length n.inputs) (holds : Holds) (held : AreHoldsOf n holds) (cycles : List Cycle) (fit : All (IsCycleOf (opened (scanned_of n chains) unknown)) cycles) where
   abbrev zeroed : Holds
   zeroed = holds_at_zero unknown holds
 
@@ -147,7 +155,7 @@ module _ (laws : Laws) (n : Netlist) (sound : IsSound n) (chains : List (List �
         let never : IsUntold chip zeroed moved = (λ state driven good faulty obeys p q.
         laws.redundant n zeroed chains f state driven good faulty sound (zero_size unknown holds ∙ held) of_cells line none obeys p q) in (
           never,
-          λ others c o cycles_fit obey passes fails. laws.untold chip unknown holds moved others c o chip_sound never cycles_fit obey passes fails,
+          λ others c o cycles_fit obey passes fails. laws.untold chip unknown holds moved others c o chip_sound (omega (arith, size, all_inputs n chains)) never cycles_fit obey passes fails,
         )
 
     pub comes_true : (evidence : List (Fault × Evidence)) (g : Fault) → IsEquivalent n f g → (one : Grade) → IsOpenGrade n chains unknown cycles f one
@@ -219,7 +227,7 @@ truth laws files c sound design good =
         at_site (sites_of n chains) f,
         stands_there n chains sites sound f.line (laws.lines n f sound (contains_at (universe_of n) place f member)),
         refl,
-        claim_true laws n sound chains of_cells chip_sound t.unknown t.holds t.inputs.held.held cycles fit c.evidence t.classes t.grades t.evident t.findings place f claim member said,
+        claim_true laws n sound chains of_cells chip_sound t.unknown t.inputs.size t.holds t.inputs.held.held cycles fit c.evidence t.classes t.grades t.evident t.findings place f claim member said,
       );
       counts_are = good.totals;
     }
