@@ -1,16 +1,19 @@
 -- Held inputs, looked at one after the other.
-use Rattle.std.proofs.Common.{◌≡◌, ◌<◌, ◌≤◌, ℕ, zero, suc, ◌+◌, inl, inr, Bool, List, [], ◌∷◌, ◌++◌, length, map, get_or, take, drop, Option, Some, None, refl, sym, ◌∙◌, ap, subst, arith}
-use Rattle.std.specs.List.{All, flat_map, slice_get}
+use Rattle.std.proofs.Common.{◌≡◌, ◌<◌, ◌≤◌, ℕ, zero, suc, ◌+◌, ◌*◌, inl, inr, Bool, true, false, MatchBool, List, [], ◌∷◌, ◌++◌, length, map, get_or, take, drop, Option, Some, None, refl, sym, ◌∙◌, ap, subst, arith}
+use Rattle.std.specs.List.{All, slice_get}
 use Rattle.std.proofs.lemmas.Option.{slice_get_within, slice_get-get_or, get_or_from_slice_get}
-use Rattle.std.proofs.lemmas.List.{get_or-map, length-map}
-use Rattle.std.proofs.lemmas.List.Elements.{All-get_or, All-from_get_or}
+use Rattle.std.proofs.lemmas.Grind.{flat_map-append}
+use Rattle.std.proofs.lemmas.List.{append-nil, get_or-map, length-map, take_all}
+use Rattle.std.proofs.lemmas.List.Elements.{All-append}
 use Rattle.std.proofs.lemmas.Bool.{cases_lt}
+use Rattle.netlist.proofs.Lists.{all_left, all_right}
 use Rattle.statement.specs.Patterns.{Holds, Obeys}
 use Rattle.statement.specs.Runs.{Cycle, numbers_from}
 use Rattle.scan_insert.proofs.Numbers.{get_or-numbers_from, length-numbers_from}
-use Rattle.scan_play.specs.Bursts.{cycle_of, cycles_of}
+use Rattle.scan_play.specs.Bursts.{all_cycles, cycle_of, cycles_of}
 use Rattle.scan_play.specs.declared.cycles.Burst.{Burst}
 use Rattle.known_tests.specs.inner.Holding.{IsDriven}
+use Rattle.known_tests.proofs.KnownParts.{more_taken}
 
 some_same : {X : Type 0} (x y : X) → Some x ≡ Some y → x ≡ y
 some_same x y e = cc
@@ -73,3 +76,36 @@ module _ {X : Type 0} (P : X → Type 0) (f : ℕ → X) (count : ℕ) where
   is_at all t l =
       let size = size_is in
       subst P (at_is t (f t) l) (all t (f t) (omega (arith, l, size)))
+
+-- a burst whose held inputs are among those that keep their bits
+module _ (held : Holds) (burst : Burst) (few : length held ≤ length burst.drive.items) (some : 0 < burst.count) where
+  abbrev ObeysAll : Type 0
+  ObeysAll = All (λ (cycle : Cycle). Obeys held cycle.drive) (cycles_of burst)
+
+  pub burst_alone : (drive : List Bool) (told : Bool) → drive ≡ burst.drive.items → MatchBool told (Obeys held (drive ++ [])) (¬ Obeys held (drive ++ [])) → MatchBool told ObeysAll (¬ ObeysAll)
+  burst_alone drive true is obeys =
+      each_is (λ (cycle : Cycle). Obeys held cycle.drive) (cycle_of burst) burst.count
+      (λ t l. front_alone held burst.drive.items [] (take burst.width (drop (t * burst.width) burst.ins.items)) few (subst (λ (d : List Bool). Obeys held (d ++ [])) is obeys))
+  burst_alone drive false is none = λ all.
+      none (subst (λ (d : List Bool). Obeys held (d ++ [])) (sym is)
+      (front_alone held burst.drive.items (take burst.width (drop (0 * burst.width) burst.ins.items)) [] few
+      (is_at (λ (cycle : Cycle). Obeys held cycle.drive) (cycle_of burst) burst.count all 0 some)))
+
+-- ---- bursts
+
+pub all_more : (P : Cycle → Type 0) (bursts : List Burst) (k : ℕ) (b : Burst) → slice_get bursts k ≡ Some b → All P (all_cycles (take k bursts)) → All P (cycles_of b)
+    → All P (all_cycles (take (k + 1) bursts))
+all_more P bursts k b at before here =
+    subst (λ (bs : List Burst). All P (all_cycles bs)) (sym (more_taken bursts k b at))
+    (subst (All P) (sym (flat_map-append cycles_of (take k bursts) (b ∷ []))) (All-append P (all_cycles (take k bursts)) (all_cycles (b ∷ [])) before
+    (subst (All P) (sym (append-nil (cycles_of b))) here)))
+
+pub all_ended : (P : Cycle → Type 0) (bursts : List Burst) (k : ℕ) → length bursts ≤ k → All P (all_cycles (take k bursts)) → All P (all_cycles bursts)
+all_ended P bursts k past all = subst (λ (bs : List Burst). All P (all_cycles bs)) (take_all k bursts past) all
+
+pub not_all : (P : Cycle → Type 0) (bursts : List Burst) (k : ℕ) (b : Burst) → slice_get bursts k ≡ Some b → ¬ All P (cycles_of b) → ¬ All P (all_cycles bursts)
+not_all P [] k b at none all = cc
+not_all P (a ∷ bs) zero b at none all =
+    let same : a ≡ b = cc in
+    none (subst (λ (x : Burst). All P (cycles_of x)) same (all_left P (cycles_of a) (all_cycles bs) all))
+not_all P (a ∷ bs) (suc k) b at none all = not_all P bs k b at none (all_right P (cycles_of a) (all_cycles bs) all)

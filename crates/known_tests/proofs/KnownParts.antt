@@ -9,7 +9,7 @@ use Rattle.unknown_inputs.specs.Unknowns.{Unknowns, known_part}
 abbrev pub one_known : {V : Type 0} → Bool → V → List V
 one_known left_out v = cond left_out [] (v ∷ [])
 
-known_none : {V : Type 0} (us : Unknowns) → known_part {V = V} us [] ≡ []
+pub known_none : {V : Type 0} (us : Unknowns) → known_part {V = V} us [] ≡ []
 known_none [] = refl
 known_none (u ∷ us) = refl
 
@@ -17,6 +17,9 @@ pub next_taken : {V : Type 0} (vs : List V) (k : ℕ) (v : V) → slice_get vs k
 next_taken [] k v e = cc
 next_taken (w ∷ vs) zero v e = let same : w ≡ v = cc in ap (λ z. z ∷ []) same
 next_taken (w ∷ vs) (suc k) v e = ap (λ zs. w ∷ zs) (next_taken vs k v e)
+
+pub more_taken : {V : Type 0} (vs : List V) (k : ℕ) (v : V) → slice_get vs k ≡ Some v → take (k + 1) vs ≡ take k vs ++ v ∷ []
+more_taken vs k v e = ap (λ i. take i vs) (add-one k) ∙ next_taken vs k v e
 
 known_next : {V : Type 0} (us : Unknowns) (vs : List V) (k : ℕ) (v : V) → slice_get vs k ≡ Some v
     → known_part us (take (suc k) vs) ≡ known_part us (take k vs) ++ one_known (slice_index_or us k false) v

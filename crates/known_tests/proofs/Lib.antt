@@ -3,3 +3,4 @@ pub mod KnownParts
 mod SameTexts
 mod KnownWidths
 mod Driven
+mod ZeroLemmas

@@ -64,7 +64,9 @@ fn are_same(texts: &Texts, others: &Texts) -> bool
         return false;
     }
     for place in 0..texts.len() {
-        if texts.get(place) != others.get(place) {
+        let text = texts.get(place);
+        let other = others.get(place);
+        if text != other {
             return false;
         }
     }

@@ -1,8 +1,11 @@
-use Rattle.std.proofs.Common.{◌≤◌, ap, length, arith}
+use Rattle.std.proofs.Common.{◌≤◌, ◌∙◌, ap, length, map, sym, arith}
 use Rattle.statement.specs.Netlists.{name_of}
 use Rattle.stil_vectors.proofs.FitLemmas.{got_at, input_within, named}
-use Rattle.known_tests.proofs.KnownParts.{mapped_all, mapped_more}
+use Rattle.known_tests.proofs.KnownParts.{known_none, mapped_all, mapped_more}
 use Rattle.known_tests.proofs.fitting.known_names.Goals as goal
+
+pub loop-place-init : goal.loop-place-init
+loop-place-init c = c.new-names.ensures ∙ sym (ap (map (name_of c.args.netlist.now)) (known_none c.args.unknown.now))
 
 pub name-name-requires : goal.name-name-requires
 name-name-requires c =
