@@ -6,12 +6,10 @@ use Rattle.statement.specs.declared.kinds.Tri.{Tri}
 use Rattle.statement.specs.declared.kinds.Tri.TheVariants.{X}
 use Rattle.statement.specs.declared.lines.Fault.{Fault}
 use Rattle.statement.specs.Netlists.{Netlist}
-use Rattle.statement.specs.Values.{known}
 use Rattle.statement.specs.Runs.{Cycle, strobe_at}
 use Rattle.netlist.specs.Conditions.{IsSound}
-use Rattle.netlist.specs.Lines.{IsFaultOf, IsLineOf}
+use Rattle.netlist.specs.Lines.{IsLineOf}
 use Rattle.scan_play.specs.Cycles.{IsCycleOf}
-use Rattle.scan_play.specs.declared.played.Played.TheVariants.{Passes}
 use Rattle.scan_play.proofs.RunLaws.{bit_at}
 use Rattle.scan_play.proofs.Widths.{valid_fault}
 use Rattle.grade.specs.Grades.{IsGraded}

@@ -1,5 +1,5 @@
 -- What the files show is one thing: a fault has one grade, and a class has evidence or not.
-use Rattle.std.proofs.Common.{◌≡◌, ◌<◌, ◌↔◌, ◌⊎◌, ℕ, inl, inr, Bool, true, false, not, List, [], ◌∷◌, length, replicate, Some, None, refl, sym, ◌∙◌, ap, subst, arith}
+use Rattle.std.proofs.Common.{◌≡◌, ◌<◌, ◌↔◌, ℕ, inl, inr, Bool, true, false, not, List, [], ◌∷◌, length, replicate, Some, refl, sym, ◌∙◌, ap, subst}
 use Rattle.std.specs.List.{AllZip}
 use Rattle.std.specs.Prelude.{IsTrue}
 use Rattle.std.proofs.lemmas.Bool.{both_ways, cases_order}
@@ -8,7 +8,7 @@ use Rattle.statement.specs.declared.kinds.Tri.TheVariants.{X}
 use Rattle.statement.specs.declared.lines.Fault.{Fault}
 use Rattle.statement.specs.Netlists.{Netlist, cells}
 use Rattle.statement.specs.Values.{known}
-use Rattle.statement.specs.Runs.{Cycle, shown_at, strobe_at}
+use Rattle.statement.specs.Runs.{Cycle}
 use Rattle.netlist.specs.Netlist.{IsAcyclic}
 use Rattle.netlist.specs.Conditions.{IsClosed}
 use Rattle.tri.specs.Settled.{tri_table}

@@ -1,7 +1,7 @@
 -- For good files the check has no other answer than how many faults there are.
-use Rattle.std.proofs.Common.{◌≡◌, ◌<◌, ◌↔◌, ℕ, zero, suc, ◌∙◌, ◌⊎◌, inl, inr, Bool, List, [], ◌∷◌, length, take, Some, Ok, Err, refl, sym, ap, subst, arith}
+use Rattle.std.proofs.Common.{◌≡◌, ◌<◌, ◌↔◌, ℕ, zero, suc, ◌∙◌, ◌⊎◌, inl, inr, List, [], ◌∷◌, length, take, Ok, Err, refl, sym, ap, subst, arith}
 use Rattle.std.specs.Prelude.{IsTrue, Result}
-use Rattle.std.specs.List.{All, AllZip, slice_get}
+use Rattle.std.specs.List.{AllZip, slice_get}
 use Rattle.std.proofs.lemmas.List.{length-map}
 use Rattle.std.proofs.lemmas.Option.{slice_get_within}
 use Rattle.statement.specs.declared.lines.Fault.{Fault}
@@ -33,11 +33,9 @@ use Rattle.good_files.proofs.FirstOnLoop.{read_once}
 use Rattle.good_files.proofs.Held.{held_once}
 use Rattle.good_files.proofs.Passing.{same_net}
 use Rattle.chain_test.specs.Hardware.{at_site}
-use Rattle.grade.specs.declared.grade.Grade.{Grade}
 use Rattle.unknown_inputs.specs.Laws.{OpenedIsSound}
 use Rattle.unknown_inputs.specs.Opened.{opened, opened_fault}
 use Rattle.unknown_inputs.specs.Unknowns.{Unknowns, holds_at_zero}
-use Rattle.unknown_report.specs.declared.claims.Claim.{Claim}
 use Rattle.unknown_report.specs.Claims.{claim_lines, counts_of}
 use Rattle.unknown_report.specs.Laws.{UnknownTextsTellReports}
 use Rattle.good_unknown_files.specs.GoodUnknownFiles.{AreClaimTotals, AreGoodUnknownFiles, AreTrueClaims, HasClosed, HasInputs, HasKnownTest, IsOpenGrade, IsUnknownTested, StandForUnknown, UnknownContents, chip_in, claims_in, claims_of, evident_in, lines_due, marked, unknown_chains_in}

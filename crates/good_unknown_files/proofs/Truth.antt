@@ -10,7 +10,7 @@ use Rattle.statement.specs.Netlists.{Netlist}
 use Rattle.statement.specs.Patterns.{Holds}
 use Rattle.statement.specs.Runs.{Cycle}
 use Rattle.statement.specs.Faults.{universe_of}
-use Rattle.statement.specs.Statement.{FiveFiles, IsSite}
+use Rattle.statement.specs.Statement.{FiveFiles}
 use Rattle.statement.specs.Tests.{vectors_in}
 use Rattle.netlist.specs.Conditions.{IsSound}
 use Rattle.netlist.specs.Designs.{IsDesign}
@@ -21,17 +21,16 @@ use Rattle.fault_universe.specs.Laws.{FaultsHaveLines}
 use Rattle.fault_universe.proofs.Elements.{contains_at}
 use Rattle.fault_collapse.specs.Joined.{IsEquivalent}
 use Rattle.fault_collapse.specs.Laws.{DetectedAlike}
-use Rattle.fault_collapse.specs.Classes.{AreClasses, Represents}
+use Rattle.fault_collapse.specs.Classes.{Represents}
 use Rattle.fault_collapse.specs.Numbers.{Classes}
 use Rattle.evidence.specs.declared.kinds.Evidence.{Evidence}
 use Rattle.evidence.specs.Laws.{ShownIsRedundant}
 use Rattle.run_report.proofs.ClassLemmas.{equivalent}
 use Rattle.scan_insert.specs.Laws.{ScanBehaves, ScannedIsSound}
 use Rattle.scan_insert.specs.Named.{SitesHaveNames}
-use Rattle.scan_insert.specs.Scanned.{AreChainsOf, line_at, naming_of, scanned_of, sites_of}
+use Rattle.scan_insert.specs.Scanned.{AreChainsOf, naming_of, scanned_of, sites_of}
 use Rattle.scan_play.specs.Cycles.{IsCycleOf}
 use Rattle.scan_play.specs.Laws.{NoSequenceDetectsRedundant}
-use Rattle.scan_play.proofs.Widths.{valid_fault}
 use Rattle.good_files.proofs.Chains.{behaves, dealt}
 use Rattle.chain_test.specs.Hardware.{at_site}
 use Rattle.grade.specs.declared.grade.Grade.{Grade}
@@ -39,7 +38,7 @@ use Rattle.grade.specs.declared.grade.Grade.TheVariants as told
 use Rattle.known_tests.specs.Laws.{KnownCycles, SitesAreLines}
 use Rattle.unknown_inputs.specs.Laws.{HeldUnknownIsUntold, OpenedAllows, OpenedTellsTheTruth}
 use Rattle.unknown_inputs.specs.Opened.{opened}
-use Rattle.unknown_inputs.specs.Unknowns.{IsUntold, PassesWhatever, Unknowns, holds_at_zero}
+use Rattle.unknown_inputs.specs.Unknowns.{IsUntold, Unknowns, holds_at_zero}
 use Rattle.unknown_report.specs.declared.claims.Claim.{Claim}
 use Rattle.good_unknown_files.specs.GoodUnknownFiles.{AreFindings, AreGoodUnknownFiles, HasClosed, IsOpenGrade, UnknownContents, chip_in, claim_of, claims_in, claims_of, unknown_chains_in}
 use Rattle.good_unknown_files.specs.Theorem.{ClaimComesTrue, IsToldByNoTest, UnknownTheorem}

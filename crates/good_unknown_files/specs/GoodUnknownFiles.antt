@@ -1,5 +1,5 @@
 -- The five files of a test with unknown inputs, what they stand for, and when they are good, whoever made them.
-use Rattle.std.specs.Prelude.{ℕ, ◌≡◌, ◌↔◌, ◌<◌, Bool, true, false, List, [], ◌∷◌, cond, length, map, slice_index_or, take, None, Some, Ok, IsTrue}
+use Rattle.std.specs.Prelude.{ℕ, ◌≡◌, ◌↔◌, ◌<◌, Bool, true, false, List, [], ◌∷◌, cond, length, map, slice_index_or, take, None, Ok, IsTrue}
 use Rattle.std.specs.List.{All, AllZip}
 use Rattle.statement.specs.declared.lines.Fault.{Fault}
 use Rattle.statement.specs.Benches.{Text}

@@ -1,8 +1,10 @@
 -- Lists that grow by one element.
-use Rattle.std.proofs.Common.{◌≡◌, ◌<◌, ◌≤◌, ℕ, zero, suc, ◌+◌, Bool, true, false, cond, List, [], ◌∷◌, ◌++◌, length, map, take, Some, refl, sym, ◌∙◌, ap, arith, add-one}
-use Rattle.std.specs.Prelude.{slice_index_or}
-use Rattle.std.specs.List.{slice_get, zip}
+use Rattle.std.proofs.Common.{◌≡◌, ◌<◌, ◌≤◌, ℕ, zero, suc, ◌+◌, Bool, true, false, cond, List, [], ◌∷◌, ◌++◌, length, map, take, get_or, Some, refl, sym, ◌∙◌, ap, subst, arith, add-one}
+use Rattle.std.specs.Prelude.{slice_index, slice_index_or}
+use Rattle.std.specs.List.{All, slice_get, zip}
 use Rattle.std.proofs.lemmas.List.{map-append, take_all}
+use Rattle.std.proofs.lemmas.List.Elements.{All-get_or}
+use Rattle.std.proofs.lemmas.Option.{slice_get-get_or}
 use Rattle.grade.specs.declared.grade.Grade.{Grade}
 use Rattle.unknown_report.specs.declared.claims.Claim.{Claim}
 use Rattle.good_unknown_files.specs.GoodUnknownFiles.{claim_of, claims_of, marked}
@@ -42,6 +44,17 @@ zip_size (x ∷ xs) (y ∷ ys) zero l = absurd (omega (arith, l))
 zip_size (x ∷ xs) (y ∷ ys) (suc k) l = let rest = zip_size xs ys k (omega (arith, l)) in omega (arith, rest)
 
 -- ---- claims
+
+pub class_at : (ks : List ℕ) (i class : ℕ) → i < length ks → class ≡ slice_index ks i → slice_get ks i ≡ Some class
+class_at ks i class lt is = slice_get-get_or ks i 0 lt ∙ ap (λ (k : ℕ). Some k) (sym is)
+
+pub class_within : (count : ℕ) (ks : List ℕ) (i class : ℕ) → i < length ks → class ≡ slice_index ks i → All (λ k. k < count) ks → class < count
+class_within count ks i class lt is all = subst (λ k. k < count) (sym is) (All-get_or (λ k. k < count) ks i 0 lt all)
+
+pub mark_at : (marks : List Bool) (k : ℕ) (one : Bool) → k < length marks → one ≡ get_or marks k one → one ≡ slice_index_or marks k false
+mark_at marks k one lt is =
+    let here : Some one ≡ Some (get_or marks k false) = ap (λ (m : Bool). Some m) is ∙ (sym (slice_get-get_or marks k one lt) ∙ slice_get-get_or marks k false lt) in
+    cc
 
 next_claim : (evident : List Bool) (ks : List ℕ) (gs : List Grade) (i class : ℕ) (g : Grade) → slice_get ks i ≡ Some class → slice_get gs i ≡ Some g
     → claims_of evident (take (suc i) ks) (take (suc i) gs) ≡ claims_of evident (take i ks) (take i gs) ++ claim_of g (slice_index_or evident class false) ∷ []

@@ -1,5 +1,5 @@
 -- The line of counts, number by number.
-use Rattle.std.proofs.Common.{◌≡◌, ◌≢◌, ℕ, List, ◌++◌, refl, sym, ◌∙◌, ap, codes, append_assoc, arith}
+use Rattle.std.proofs.Common.{◌≡◌, ℕ, List, ◌++◌, refl, sym, ◌∙◌, ap, codes, append_assoc, arith}
 use Rattle.report.specs.Beginnings.{Begins, NoneBegins, IsCount}
 use Rattle.report.proofs.LineLemmas.{IsTold}
 use Rattle.unknown_report.specs.declared.claims.ClaimCounts.{ClaimCounts}

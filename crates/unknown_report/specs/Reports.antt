@@ -1,5 +1,5 @@
 -- Reports of tests with unknown inputs, and their one text.
-use Rattle.std.specs.Prelude.{ℕ, ◌≢◌, ◌<◌, ◌^◌, List, [], ◌∷◌, ◌++◌, codes, decimal}
+use Rattle.std.specs.Prelude.{ℕ, ◌≢◌, List, [], ◌∷◌, ◌++◌, codes, decimal}
 use Rattle.std.specs.List.{All, flat_map}
 use Rattle.report.specs.Beginnings.{IsCount}
 use Rattle.report.specs.Reports.{Hold, IsBenchWord}

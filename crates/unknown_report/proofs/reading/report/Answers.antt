@@ -1,4 +1,3 @@
-use Rattle.std.proofs.Common.{◌∙◌, sym}
 use Rattle.std.proofs.lemmas.Option.{MatchOption-at_none, MatchOption-at_some}
 use Rattle.unknown_report.proofs.ReportTexts.{behind_head, no_chains, no_counts, no_lines, report_found}
 use Rattle.unknown_report.proofs.reading.report.Goals as goal
