@@ -25,11 +25,11 @@ use Rattle.good_unknown_files.specs.GoodUnknownFiles.{AreClaimTotals, AreInputsS
 use Rattle.good_unknown_files.specs.Clauses.{IsFalseClaim, IsFirstOther, IsFurtherLine}
 use Rattle.good_unknown_files.specs.Checks.{IsUnknownAnswer, PassesWhereTrueUnknown}
 use Rattle.good_unknown_files.specs.Laws.{UnknownCheckedIsGood}
-use Rattle.unknown_check.specs.declared.findings.Due.{Due}
+use Rattle.unknown_claims.specs.declared.findings.Due.{Due}
 use Rattle.unknown_check.specs.declared.reading.Said.{Said}
 use Rattle.unknown_check.specs.inner.Checking.{IsInputsAnswer, IsScanAnswer, IsTestAnswer, IsVerdict}
 use Rattle.unknown_check.specs.inner.Comparing.{AreSaidSo, IsNamed}
-use Rattle.unknown_check.specs.inner.Findings.{AreDue, AreFindingsOf, UnknownTest}
+use Rattle.unknown_claims.specs.Findings.{AreDue, AreFindingsOf, UnknownTest}
 use Rattle.unknown_check.specs.inner.Reading.{contents_of}
 
 -- the test that the texts stand for, with these inputs

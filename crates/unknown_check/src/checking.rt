@@ -9,12 +9,10 @@ ghost use Rattle.good_files.specs.ScanOff.{design_chains};
 ghost use Rattle.good_unknown_files.specs.Checks.{IsUnknownAnswer, IsUnknownChecked, PassesWhereTrueUnknown};
 ghost use Rattle.good_unknown_files.specs.GoodUnknownFiles.{AreInputsSaid};
 ghost use Rattle.unknown_check.specs.inner.Checking.{IsInputsAnswer, IsPosed, IsScanAnswer, IsTestAnswer, IsTrialOf, IsVerdict};
-ghost use Rattle.unknown_check.specs.inner.Chips.{IsOpenChip};
+ghost use Rattle.unknown_claims.specs.Chips.{IsOpenChip};
 ghost use Rattle.unknown_check.specs.inner.Reading.{contents_of};
 
-use crate::chips::{OpenChip, open_chip};
 use crate::comparing::false_claim;
-use crate::findings::{Due, UnknownTrial, due_of};
 use crate::inputs::{Inputs, inputs_by};
 use crate::reading::{Said, said_of};
 use crate::testing::is_known_test;
@@ -23,7 +21,9 @@ use good_files::{CheckFault, Checked, Clause};
 use good_unknown_files::unknown_checked_is_good;
 use known_tests::known_holds;
 use netlist::NoMemory;
+use outside::OpenGate;
 use std::alloc::Global;
+use unknown_claims::{Due, OpenChip, UnknownTrial, due_of, open_chip};
 
 /// What is false of the claims or the totals, or how many faults there are.
 fn verdict_of(alloc: Global, said: &Said, due: &Due) -> Result<Checked, NoMemory>
@@ -71,7 +71,7 @@ fn tried(
         file: &said.file,
         evidence: &said.evidence,
     };
-    let due = due_of(alloc, &trial)?;
+    let due = due_of(alloc, &OpenGate, &trial)?;
     let verdict = verdict_of(alloc, said, &due);
     drop(due);
     verdict

@@ -9,9 +9,7 @@
 #![tactic(auto)]
 
 mod checking;
-mod chips;
 mod comparing;
-mod findings;
 mod inputs;
 mod reading;
 mod testing;

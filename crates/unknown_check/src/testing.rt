@@ -7,16 +7,16 @@ ghost use Rattle.scan_play.specs.Playing.{PlaysAs};
 ghost use Rattle.scan_play.specs.declared.played.Played.TheVariants.{Passes};
 ghost use Rattle.unknown_inputs.specs.Unknowns.{known_part};
 ghost use Rattle.good_unknown_files.specs.GoodUnknownFiles.{IsKnownTest};
-ghost use Rattle.unknown_check.specs.inner.Chips.{IsOpenChip};
+ghost use Rattle.unknown_claims.specs.Chips.{IsOpenChip};
 ghost use Rattle.unknown_check.specs.inner.Testing.{IsDrivenTest};
 
-use crate::chips::OpenChip;
 use known_tests::{fits_known, known_cycles, obeys_known};
 use netlist::{Core, Holds, Netlist, NoMemory};
 use scan_play::{Played, Vectors, play};
 use std::alloc::Global;
 use stil_vectors::{cycle_count, vectors};
 use stil_write::StilFile;
+use unknown_claims::OpenChip;
 
 /// The cycles of a file, which have to be fewer than 2 to the 64.
 fn cycles_of(alloc: Global, file: &StilFile) -> Result<Vectors, NoMemory>

@@ -32,7 +32,7 @@ fn claim_of(grade: Grade, evident: bool) -> Claim
 }
 
 /// What is claimed of each fault: by its grade, and by whether its class has evidence.
-pub fn claims_of(
+pub(crate) fn claims_of(
     alloc: Global,
     classes: &Classes,
     grades: &[Grade],

@@ -32,7 +32,7 @@ fn marks_of(alloc: Global, ends: &[Option<Counts>]) -> Result<Vec<bool>, AllocEr
 }
 
 /// Of each class whether its representative's first evidence shows it under these held inputs and leaves nothing open.
-pub fn evident_of(
+pub(crate) fn evident_of(
     alloc: Global,
     core: &Core,
     holds: &Holds,
@@ -61,7 +61,11 @@ fn push_marked(mark: bool, fault: Fault, kept: &mut Vec<Fault>) -> Result<(), Al
 }
 
 /// The faults that are marked, in order.
-pub fn kept(alloc: Global, marks: &[bool], faults: &[Fault]) -> Result<Vec<Fault>, AllocError>
+pub(crate) fn kept(
+    alloc: Global,
+    marks: &[bool],
+    faults: &[Fault],
+) -> Result<Vec<Fault>, AllocError>
     requires { length marks.now ≡ length faults.now }
     ensures { IfOk result (λ kept. kept.items ≡ marked marks.now faults.now) }
 {

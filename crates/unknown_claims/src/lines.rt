@@ -13,7 +13,7 @@ use std::alloc::{AllocError, Global};
 use unknown_report::{Claim, push_claim_line};
 
 /// A line for each fault of the design, by the pins of the scanned netlist.
-pub fn lines_of(
+pub(crate) fn lines_of(
     alloc: Global,
     design: &Netlist,
     scanned: &Netlist,

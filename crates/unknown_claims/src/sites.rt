@@ -33,7 +33,7 @@ fn site_of(scanned: &Scanned, opened: &Opened, fault: Fault) -> Fault
 }
 
 /// The faults of the design at their sites, in the opened netlist.
-pub fn site_faults(
+fn site_faults(
     alloc: Global,
     scanned: &Scanned,
     opened: &Opened,
@@ -50,7 +50,7 @@ pub fn site_faults(
 }
 
 /// What the cycles of a file tell of each fault of the design in the opened netlist, which is that of this core.
-pub fn open_grades<G: Gate>(
+pub(crate) fn open_grades<G: Gate>(
     alloc: Global,
     stage: &G,
     core: &Core,

@@ -16,11 +16,11 @@ use Rattle.good_files.specs.declared.answers.Clause.TheVariants as clause
 use Rattle.unknown_inputs.specs.Unknowns.{Unknowns}
 use Rattle.good_unknown_files.specs.GoodUnknownFiles.{AreInputsSaid, HasInputs, HasKnownTest, HasUnknownScan, IsKnownTest}
 use Rattle.good_unknown_files.specs.Checks.{IsUnknownAnswer}
-use Rattle.unknown_check.specs.declared.chips.OpenChip.{OpenChip}
-use Rattle.unknown_check.specs.declared.findings.Due.{Due}
+use Rattle.unknown_claims.specs.declared.chips.OpenChip.{OpenChip}
+use Rattle.unknown_claims.specs.declared.findings.Due.{Due}
 use Rattle.unknown_check.specs.declared.inputs.Inputs.{Inputs}
 use Rattle.unknown_check.specs.declared.reading.Said.{Said}
-use Rattle.unknown_check.specs.inner.Chips.{IsOpenChip}
+use Rattle.unknown_claims.specs.Chips.{IsOpenChip}
 use Rattle.unknown_check.specs.inner.Comparing.{AreSaidSo, IsNamed}
 use Rattle.unknown_check.specs.inner.Reading.{contents_of}
 

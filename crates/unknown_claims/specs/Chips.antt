@@ -3,7 +3,7 @@ use Rattle.std.specs.Prelude.{◌≡◌}
 use Rattle.statement.specs.Netlists.{Netlist}
 use Rattle.unknown_inputs.specs.Opened.{opened, opening_of}
 use Rattle.unknown_inputs.specs.Unknowns.{Unknowns}
-use Rattle.unknown_check.specs.declared.chips.OpenChip.{OpenChip}
+use Rattle.unknown_claims.specs.declared.chips.OpenChip.{OpenChip}
 
 pub record IsOpenChip (chip : Netlist) (unknown : Unknowns) (c : OpenChip) : Type 0 where
   pub opening : c.opened ≡ opening_of chip unknown

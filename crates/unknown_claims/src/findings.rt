@@ -1,26 +1,29 @@
 //! What a test and its evidence show, and what has to be said of it.
 ghost use Rattle.std.specs.Prelude.{◌≡◌, IfOk};
 ghost use Rattle.fault_collapse.specs.Classes.{AreClasses};
-ghost use Rattle.unknown_check.specs.inner.Findings.{AreDue, AreDueBy, AreEvident, AreFound, IsUnknownTrial, unknown_test_of};
+ghost use Rattle.unknown_claims.specs.Findings.{AreDue, AreDueBy, AreEvident, AreFound, IsUnknownTrial, unknown_test_of};
 
 use crate::chips::OpenChip;
+use crate::claiming::claims_of;
+use crate::evident::{evident_of, kept};
+use crate::lines::lines_of;
+use crate::sites::open_grades;
 use evidence::Evidence;
 use fault_collapse::{Classes, collapse};
 use fault_universe::{FaultSet, faults_have_lines, faults_have_signals, few_faults, universe};
 use grade::Grade;
 use known_tests::zeroed;
 use netlist::{Core, Fault, Holds, NameTable, NoMemory};
-use outside::OpenGate;
+use outside::Gate;
 use run_report::pin_names;
 use scan_insert::{Chains, Scanned};
 use std::alloc::Global;
 use stil_write::StilFile;
-use unknown_claims::{claims_of, evident_of, kept, lines_of, open_grades};
 use unknown_report::{ClaimCounts, counts_of};
 
 /// A design and its chip, the unknown and the held inputs, the test and the evidence.
 #[derive(Clone, Copy)]
-pub(crate) struct UnknownTrial<'a> {
+pub struct UnknownTrial<'a> {
     pub core: &'a Core,
     pub chains: &'a Chains,
     pub scanned: &'a Scanned,
@@ -33,7 +36,7 @@ pub(crate) struct UnknownTrial<'a> {
 
 /// The lines and the counts that a report has to have, and the faults whose evidence a certificate may have.
 #[derive(Drop)]
-pub(crate) struct Due {
+pub struct Due {
     pub lines: NameTable,
     pub counts: ClaimCounts,
     pub kept: Vec<Fault>,
@@ -88,7 +91,7 @@ fn due_by(
 }
 
 /// What is due of a test: it is played in three values with each fault, and the evidence of each class is checked.
-pub(crate) fn due_of(alloc: Global, trial: &UnknownTrial<'_>) -> Result<Due, NoMemory>
+pub fn due_of<G: Gate>(alloc: Global, stage: &G, trial: &UnknownTrial<'_>) -> Result<Due, NoMemory>
     requires { IsUnknownTrial trial.now }
     ensures { IfOk result (AreDue (unknown_test_of trial.now)) }
 {
@@ -101,7 +104,7 @@ pub(crate) fn due_of(alloc: Global, trial: &UnknownTrial<'_>) -> Result<Due, NoM
     let evident = marks_of(alloc, trial, &classes)?;
     let grades = open_grades(
         alloc,
-        &OpenGate,
+        stage,
         &trial.open.core,
         trial.scanned,
         &trial.open.opened,

@@ -2,7 +2,7 @@
 ghost use Rattle.std.specs.Prelude.{◌≡◌, ◌<◌, length, IfOk};
 ghost use Rattle.unknown_inputs.specs.Opened.{opened, opening_of};
 ghost use Rattle.unknown_inputs.specs.Unknowns.{known_part};
-ghost use Rattle.unknown_check.specs.inner.Chips.{IsOpenChip};
+ghost use Rattle.unknown_claims.specs.Chips.{IsOpenChip};
 
 use netlist::{Core, Netlist, NoMemory};
 use std::alloc::Global;
@@ -10,7 +10,7 @@ use unknown_inputs::{Opened, open};
 
 /// It, and a core for it.
 #[derive(Drop)]
-pub(crate) struct OpenChip {
+pub struct OpenChip {
     pub opened: Opened,
     pub core: Core,
 }
@@ -27,11 +27,7 @@ fn core_of(alloc: Global, opened: &Opened) -> Result<Core, NoMemory>
 }
 
 /// The chip opened, where the tester sets some input.
-pub(crate) fn open_chip(
-    alloc: Global,
-    chip: &Netlist,
-    unknown: &[bool],
-) -> Result<OpenChip, NoMemory>
+pub fn open_chip(alloc: Global, chip: &Netlist, unknown: &[bool]) -> Result<OpenChip, NoMemory>
     requires { 0 < length (known_part unknown.now chip.now.inputs) }
     ensures { IfOk result (IsOpenChip chip.now unknown.now) }
 {

@@ -20,9 +20,9 @@ use Rattle.unknown_inputs.specs.Opened.{opened}
 use Rattle.unknown_inputs.specs.Unknowns.{Unknowns, holds_at_zero}
 use Rattle.unknown_report.specs.Claims.{claim_lines, counts_of}
 use Rattle.good_unknown_files.specs.GoodUnknownFiles.{AreFindings, HasClosed, claims_of, marked}
-use Rattle.unknown_check.specs.declared.findings.Due.{Due}
-use Rattle.unknown_check.specs.declared.findings.UnknownTrial.{UnknownTrial}
-use Rattle.unknown_check.specs.inner.Chips.{IsOpenChip}
+use Rattle.unknown_claims.specs.declared.findings.Due.{Due}
+use Rattle.unknown_claims.specs.declared.findings.UnknownTrial.{UnknownTrial}
+use Rattle.unknown_claims.specs.Chips.{IsOpenChip}
 
 -- a test with unknown inputs that files say
 pub record UnknownTest : Type 0 where
