@@ -1,7 +1,9 @@
 -- Inputs held one after the other, where the unknown ones are held at 0.
-use Rattle.std.proofs.Common.{◌≡◌, ◌≢◌, ◌<◌, ◌≤◌, ℕ, zero, suc, ◌+◌, inl, inr, Bool, true, false, cond, List, [], ◌∷◌, length, get_or, set, Option, Some, None, refl, sym, ◌∙◌, ap, subst, arith, length-set}
+use Rattle.std.proofs.Common.{◌≡◌, ◌<◌, ◌≤◌, ℕ, zero, suc, ◌+◌, inl, inr, Bool, true, false, cond, List, [], ◌∷◌, length, get_or, map, Option, Some, None, refl, sym, ◌∙◌, ap, arith, length-set}
 use Rattle.std.proofs.lemmas.Bool.{cases_lt}
-use Rattle.std.proofs.lemmas.List.{ext_get_or, get_or-set_other, get_or-set_same}
+use Rattle.std.proofs.lemmas.List.{ext_get_or, get_or-set_other, get_or-set_same, length-map}
+use Rattle.std.proofs.lemmas.Option.{slice_get-get_or}
+use Rattle.std.specs.List.{slice_get}
 use Rattle.statement.specs.Patterns.{Holds}
 use Rattle.unknown_inputs.specs.Unknowns.{Unknowns, holds_at_zero}
 use Rattle.known_tests.specs.inner.Holding.{hold_set}
@@ -39,9 +41,23 @@ set_other : (made : Holds) (k j : ℕ) (hold : Option Bool) → (j ≡ k → ⊥
 set_other made k j None other = refl
 set_other made k j (Some b) other = get_or-set_other made k j (Some b) None other
 
+none_at : {X : Type 0} (xs : List X) (j : ℕ) → get_or (map (λ (x : X). None {A = Bool}) xs) j None ≡ None
+none_at [] j = refl
+none_at (x ∷ xs) zero = refl
+none_at (x ∷ xs) (suc j) = none_at xs j
+
+pub own_at : (hs : Holds) (k : ℕ) (own : Option Bool) → k < length hs → slice_get hs k ≡ Some own → own ≡ get_or hs k None
+own_at hs k own lt at =
+    let here : Some own ≡ Some (get_or hs k None) = sym at ∙ slice_get-get_or hs k None lt in
+    cc
+
 module _ (us : Unknowns) (hs : Holds) (size : length us ≡ length hs) where
   pub none_zeroed : (made : Holds) → length made ≡ length hs → ((j : ℕ) → get_or made j None ≡ None) → IsPartZeroed us hs 0 made
   none_zeroed made same none = record { size = same; done = λ j l. absurd (omega (arith, l)); left = λ j l. none j }
+
+  pub start_zeroed : {X : Type 0} (inputs : List X) (made : Holds) → length hs ≡ length inputs → made ≡ map (λ (x : X). None {A = Bool}) inputs → IsPartZeroed us hs 0 made
+  start_zeroed {X} inputs made held is =
+      none_zeroed made (ap length is ∙ (length-map inputs (λ (x : X). None {A = Bool}) ∙ sym held)) (λ j. ap (λ (m : Holds). get_or m j None) is ∙ none_at inputs j)
 
   pub more_zeroed : (k : ℕ) (made new : Holds) (hold own : Option Bool) (unknown : Bool) → k < length hs → own ≡ get_or hs k None → unknown ≡ get_or us k false
       → hold ≡ cond unknown (Some false) own → new ≡ hold_set made k hold → IsPartZeroed us hs k made → IsPartZeroed us hs (k + 1) new

@@ -1,7 +1,7 @@
 -- Lists that grow by one element.
 use Rattle.std.proofs.Common.{◌≡◌, ◌<◌, ◌≤◌, ℕ, zero, suc, ◌+◌, Bool, true, false, cond, List, [], ◌∷◌, ◌++◌, length, map, take, get_or, Some, refl, sym, ◌∙◌, ap, subst, arith, add-one}
 use Rattle.std.specs.Prelude.{slice_index, slice_index_or}
-use Rattle.std.specs.List.{All, slice_get, zip}
+use Rattle.std.specs.List.{All, AllZip, slice_get, zip}
 use Rattle.std.proofs.lemmas.List.{map-append, take_all}
 use Rattle.std.proofs.lemmas.List.Elements.{All-get_or}
 use Rattle.std.proofs.lemmas.Option.{slice_get-get_or}
@@ -42,6 +42,12 @@ zip_size [] ys k l = omega arith
 zip_size (x ∷ xs) [] k l = omega arith
 zip_size (x ∷ xs) (y ∷ ys) zero l = absurd (omega (arith, l))
 zip_size (x ∷ xs) (y ∷ ys) (suc k) l = let rest = zip_size xs ys k (omega (arith, l)) in omega (arith, rest)
+
+pub zip_made : {X Y Z : Type 0} (R : Y → Z → Type 0) (f : X → Y) (xs : List X) (zs : List Z) → AllZip R (map f xs) zs → AllZip (λ x z. R (f x) z) xs zs
+zip_made R f [] [] all = tt
+zip_made R f [] (z ∷ zs) all = absurd all
+zip_made R f (x ∷ xs) [] all = absurd all
+zip_made R f (x ∷ xs) (z ∷ zs) all = (all.0, zip_made R f xs zs all.1)
 
 -- ---- claims
 

@@ -64,7 +64,6 @@ pub(crate) fn open_grades<G: Gate>(
     ensures { IfOk result (λ grades. AllZip (λ f grade. IsGraded core.now (site_in scanned.now opened.now f) (vectors_in file.now) grade) faults.now grades.items) }
 {
     let sites = site_faults(alloc, scanned, opened, faults)?;
-    let grades = grades_of(alloc, stage, core, &sites, file);
-    drop(sites);
-    grades
+    let grades = grades_of(alloc, stage, core, &sites, file)?;
+    Ok(grades)
 }
