@@ -41,7 +41,10 @@ set_other : (made : Holds) (k j : ℕ) (hold : Option Bool) → (j ≡ k → ⊥
 set_other made k j None other = refl
 set_other made k j (Some b) other = get_or-set_other made k j (Some b) None other
 
-none_at : {X : Type 0} (xs : List X) (j : ℕ) → get_or (map (λ (x : X). None {A = Bool}) xs) j None ≡ None
+abbrev none_for : {X : Type 0} → X → Option Bool
+none_for x = None
+
+none_at : {X : Type 0} (xs : List X) (j : ℕ) → get_or (map none_for xs) j None ≡ None
 none_at [] j = refl
 none_at (x ∷ xs) zero = refl
 none_at (x ∷ xs) (suc j) = none_at xs j
@@ -55,9 +58,9 @@ module _ (us : Unknowns) (hs : Holds) (size : length us ≡ length hs) where
   pub none_zeroed : (made : Holds) → length made ≡ length hs → ((j : ℕ) → get_or made j None ≡ None) → IsPartZeroed us hs 0 made
   none_zeroed made same none = record { size = same; done = λ j l. absurd (omega (arith, l)); left = λ j l. none j }
 
-  pub start_zeroed : {X : Type 0} (inputs : List X) (made : Holds) → length hs ≡ length inputs → made ≡ map (λ (x : X). None {A = Bool}) inputs → IsPartZeroed us hs 0 made
+  pub start_zeroed : {X : Type 0} (inputs : List X) (made : Holds) → length hs ≡ length inputs → made ≡ map none_for inputs → IsPartZeroed us hs 0 made
   start_zeroed {X} inputs made held is =
-      none_zeroed made (ap length is ∙ (length-map inputs (λ (x : X). None {A = Bool}) ∙ sym held)) (λ j. ap (λ (m : Holds). get_or m j None) is ∙ none_at inputs j)
+      none_zeroed made (ap length is ∙ (length-map inputs (none_for {X = X}) ∙ sym held)) (λ j. ap (λ (m : Holds). get_or m j None) is ∙ none_at inputs j)
 
   pub more_zeroed : (k : ℕ) (made new : Holds) (hold own : Option Bool) (unknown : Bool) → k < length hs → own ≡ get_or hs k None → unknown ≡ get_or us k false
       → hold ≡ cond unknown (Some false) own → new ≡ hold_set made k hold → IsPartZeroed us hs k made → IsPartZeroed us hs (k + 1) new

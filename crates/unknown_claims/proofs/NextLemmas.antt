@@ -101,5 +101,18 @@ pub marked_more : {X : Type 0} (ms : List Bool) (xs : List X) (k : ℕ) (m : Boo
 marked_more ms xs k m x old new p q o n =
     n ∙ (ap (λ ys. ys ++ cond m (x ∷ []) []) o ∙ (sym (next_marked ms xs k m x p q) ∙ ap (λ i. marked (take i ms) (take i xs)) (sym (add-one k))))
 
+next_skipped : {X : Type 0} (ms : List Bool) (xs : List X) (k : ℕ) → slice_get ms k ≡ Some false → marked (take (suc k) ms) (take (suc k) xs) ≡ marked (take k ms) (take k xs)
+next_skipped [] xs k p = cc
+next_skipped (true ∷ ms) xs zero p = cc
+next_skipped (false ∷ ms) [] zero p = refl
+next_skipped (false ∷ ms) (x ∷ xs) zero p = refl
+next_skipped (a ∷ ms) [] (suc k) p = refl
+next_skipped (true ∷ ms) (x ∷ xs) (suc k) p = ap (λ zs. x ∷ zs) (next_skipped ms xs k p)
+next_skipped (false ∷ ms) (x ∷ xs) (suc k) p = next_skipped ms xs k p
+
+pub skipped_more : {X : Type 0} (ms : List Bool) (xs : List X) (k : ℕ) (old : List X) → slice_get ms k ≡ Some false → old ≡ marked (take k ms) (take k xs)
+    → old ≡ marked (take (k + 1) ms) (take (k + 1) xs)
+skipped_more ms xs k old p o = o ∙ (sym (next_skipped ms xs k p) ∙ ap (λ i. marked (take i ms) (take i xs)) (sym (add-one k)))
+
 pub marked_all : {X : Type 0} (ms : List Bool) (xs : List X) (k : ℕ) (made : List X) → length ms ≤ k → length xs ≤ k → made ≡ marked (take k ms) (take k xs) → made ≡ marked ms xs
 marked_all ms xs k made few also is = is ∙ (ap (λ ns. marked ns (take k xs)) (take_all k ms few) ∙ ap (marked ms) (take_all k xs also))

@@ -1,5 +1,5 @@
 //! Which classes have evidence that leaves nothing open.
-ghost use Rattle.std.specs.Prelude.{◌≡◌, ◌↔◌, ◌++◌, ◌∷◌, [], cond, length, map, IfOk, OnOk, IsTrue};
+ghost use Rattle.std.specs.Prelude.{◌≡◌, ◌<◌, ◌↔◌, Some, length, map, IfOk, IsTrue, slice_get};
 ghost use Rattle.std.specs.List.{All, AllZip, Contains};
 ghost use Rattle.netlist.specs.Holds.{AreHoldsOf};
 ghost use Rattle.statement.specs.Faults.{universe_of};
@@ -49,15 +49,20 @@ pub(crate) fn evident_of(
     Ok(marks)
 }
 
-/// Adds a fault, if it is marked.
-fn push_marked(mark: bool, fault: Fault, kept: &mut Vec<Fault>) -> Result<(), AllocError>
-    ensures { OnOk result (kept.new.items ≡ kept.old.items ++ cond mark (fault ∷ []) []) }
+/// Whether the one at a place is marked.
+fn is_marked(marks: &[bool], k: usize) -> bool
+    requires { k < length marks.now }
+    ensures { slice_get marks.now k ≡ Some result }
 {
-    if !mark {
-        return Ok(());
-    }
-    kept.push(fault)?;
-    Ok(())
+    marks[k]
+}
+
+/// The fault at a place.
+fn fault_at(faults: &[Fault], k: usize) -> Fault
+    requires { k < length faults.now }
+    ensures { slice_get faults.now k ≡ Some result }
+{
+    faults[k]
 }
 
 /// The faults that are marked, in order.
@@ -71,7 +76,10 @@ pub(crate) fn kept(
 {
     let mut kept = Vec::new(alloc);
     for k in 0..faults.len() {
-        push_marked(marks[k], faults[k], &mut kept)?;
+        if is_marked(marks, k) {
+            let Fault { line, value } = fault_at(faults, k);
+            kept.push(Fault { line, value })?;
+        }
     }
     Ok(kept)
 }

@@ -1,5 +1,6 @@
-use Rattle.std.proofs.Common.{◌<◌, ◌≤◌, length, refl, arith}
+use Rattle.std.proofs.Common.{◌≤◌, ap, length, refl, arith}
 use Rattle.std.proofs.lemmas.Option.{slice_get_within}
+use Rattle.statement.specs.Netlists.{Netlist}
 use Rattle.known_tests.proofs.ZeroLemmas.{all_zeroed, more_zeroed, own_at, start_zeroed}
 use Rattle.known_tests.proofs.holding.zeroed.Goals as goal
 
@@ -17,5 +18,8 @@ loop-input-preserved c =
 pub returns : goal.returns
 returns c =
     let held = c.requires.held in
+    let stop = c.loop-input-test.false in
+    let size = ap length c.inputs.ensures in
+    let whole = ap (λ (n : Netlist). length n.inputs) c.netlist-2.ensures in
     let past : length c.args.holds.now ≤ c.loop-input.input = omega arith in
     all_zeroed c.args.unknown.now c.args.holds.now c.requires.size c.loop-input.input c.loop-input.zeroed past c.loop-input.invariant

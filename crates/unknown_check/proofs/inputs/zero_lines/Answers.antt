@@ -9,5 +9,7 @@ loop-k-preserved c =
 
 pub returns : goal.returns
 returns c =
+    let stop = c.loop-k-test.false in
+    let all = c.len-k-end.ensures in
     let few : length c.args.names.now ≤ c.loop-k.k = omega arith in
     mapped_all at_zero c.args.names.now c.loop-k.k c.loop-k.lines few c.loop-k.invariant

@@ -10,5 +10,7 @@ loop-i-preserved c =
 
 pub returns : goal.returns
 returns c =
+    let stop = c.loop-i-test.false in
+    let all = c.len-i-end.ensures in
     let few : length c.args.faults.now ≤ c.loop-i.i = omega arith in
     mapped_all (site_in c.args.scanned.now c.args.opened.now) c.args.faults.now c.loop-i.i c.loop-i.sites.items few c.loop-i.invariant
