@@ -1,5 +1,5 @@
 -- How wide the cycles of a file are that sets the known inputs: as they are for a netlist of its pins alone.
-use Rattle.std.proofs.Common.{◌≡◌, ◌<◌, ◌≤◌, ℕ, zero, suc, ◌+◌, Bool, false, cond, List, [], ◌∷◌, ◌++◌, length, map, get_or, refl, sym, ◌∙◌, ap, ap₂, subst, codes, arith, append_assoc, append-nil, length-append}
+use Rattle.std.proofs.Common.{◌≡◌, ◌≤◌, ℕ, zero, suc, ◌+◌, false, cond, List, [], ◌∷◌, ◌++◌, length, map, get_or, refl, sym, ◌∙◌, ap, ap₂, subst, codes, arith, append_assoc, append-nil, length-append}
 use Rattle.std.specs.List.{All, list_any}
 use Rattle.std.specs.Prelude.{◌==◌, ◌||◌}
 use Rattle.std.proofs.lemmas.Bool.{ne_eqb}
@@ -7,7 +7,7 @@ use Rattle.std.proofs.lemmas.List.{get_or-append-add, length-map}
 use Rattle.std.proofs.lemmas.List.Elements.{All-weaker}
 use Rattle.statement.specs.Netlists.{Definition, Netlist, name_of}
 use Rattle.statement.specs.Runs.{Cycle, numbers_from, output_name}
-use Rattle.statement.specs.Stils.{StilFile, scan_inputs, scan_outputs}
+use Rattle.statement.specs.Stils.{scan_inputs, scan_outputs}
 use Rattle.statement.specs.Tests.{vectors_in}
 use Rattle.scan_insert.proofs.Numbers.{length-numbers_from}
 use Rattle.scan_play.specs.Cycles.{IsCycleOf}
@@ -15,7 +15,6 @@ use Rattle.stil_vectors.specs.Fitting.{FitsNetlist}
 use Rattle.stil_vectors.specs.Laws.{FittingCycles}
 use Rattle.unknown_inputs.specs.Opened.{opened, opened_number}
 use Rattle.unknown_inputs.specs.Unknowns.{known_part}
-use Rattle.known_tests.specs.Fitting.{FitsKnown}
 use Rattle.known_tests.specs.Laws.{KnownCycles}
 
 -- ---- names by their places

@@ -13,7 +13,7 @@ ghost use Rattle.unknown_claims.specs.inner.Sites.{site_in};
 
 use fault_universe::FaultSet;
 use grade::{Grade, grades_of};
-use netlist::{Core, Fault, NoMemory};
+use netlist::{Core, Fault, Line, NoMemory};
 use outside::Gate;
 use scan_insert::Scanned;
 use std::alloc::{AllocError, Global};
@@ -26,10 +26,8 @@ fn site_of(scanned: &Scanned, opened: &Opened, fault: Fault) -> Fault
     ensures { result ≡ site_in scanned.now opened.now fault }
 {
     let Fault { line, value } = fault;
-    opened.fault_of(Fault {
-        line: scanned.site_of(line),
-        value,
-    })
+    let site: Line = scanned.site_of(line);
+    opened.fault_of(Fault { line: site, value })
 }
 
 /// The faults of the design at their sites, in the opened netlist.

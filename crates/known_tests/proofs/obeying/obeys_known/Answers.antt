@@ -1,5 +1,5 @@
-use Rattle.std.proofs.Common.{◌≡◌, ◌≤◌, Some, length, refl, subst, sym, arith}
-use Rattle.std.specs.List.{All, slice_get}
+use Rattle.std.proofs.Common.{◌≤◌, length, refl, subst, sym, arith}
+use Rattle.std.specs.List.{All}
 use Rattle.statement.specs.Patterns.{Obeys}
 use Rattle.statement.specs.Runs.{Cycle}
 use Rattle.stil_vectors.proofs.FitLemmas.{got_at}

@@ -8,7 +8,7 @@ use Rattle.unknown_claims.proofs.NextLemmas.{zip_made}
 use Rattle.unknown_claims.proofs.sites.open_grades.Goals as goal
 
 pub returns : goal.returns
-returns c =
+returns g c =
     let n = c.args.core.now in
     let cycles = vectors_in c.args.file.now in
     let grades = c.in_ok-grades.grades.items in
