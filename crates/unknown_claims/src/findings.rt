@@ -53,9 +53,8 @@ fn marks_of(
     ensures { IfOk result (λ v. AreEvident (unknown_test_of trial.now) classes.now v.items) }
 {
     let at_zero = zeroed(alloc, trial.core, trial.holds, trial.unknown)?;
-    let marks = evident_of(alloc, trial.core, &at_zero, trial.evidence, classes);
-    drop(at_zero);
-    marks
+    let marks = evident_of(alloc, trial.core, &at_zero, trial.evidence, classes)?;
+    Ok(marks)
 }
 
 /// What is due where the faults have these grades and classes.
