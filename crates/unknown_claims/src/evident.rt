@@ -8,6 +8,7 @@ ghost use Rattle.certificate.specs.Certificates.{IsEvidence};
 ghost use Rattle.good_unknown_files.specs.GoodUnknownFiles.{HasClosed, marked};
 ghost use Rattle.unknown_claims.specs.inner.Marks.{is_shut};
 
+use crate::pushing::push_fault;
 use check_parts::first_ends;
 use evidence::Evidence;
 use fault_collapse::Classes;
@@ -77,8 +78,7 @@ pub(crate) fn kept(
     let mut kept = Vec::new(alloc);
     for k in 0..faults.len() {
         if is_marked(marks, k) {
-            let Fault { line, value } = fault_at(faults, k);
-            kept.push(Fault { line, value })?;
+            push_fault(&fault_at(faults, k), &mut kept)?;
         }
     }
     Ok(kept)

@@ -13,6 +13,7 @@ mod claiming;
 mod evident;
 mod findings;
 mod lines;
+mod pushing;
 mod sites;
 
 pub use chips::{OpenChip, open_chip};

@@ -11,9 +11,10 @@ ghost use Rattle.grade.specs.Grades.{IsGraded};
 ghost use Rattle.unknown_inputs.specs.Opened.{fault_by, number_by};
 ghost use Rattle.unknown_claims.specs.inner.Sites.{site_in};
 
+use crate::pushing::push_fault;
 use fault_universe::FaultSet;
 use grade::{Grade, grades_of};
-use netlist::{Core, Fault, Line, NoMemory};
+use netlist::{Core, Fault, NoMemory};
 use outside::Gate;
 use scan_insert::Scanned;
 use std::alloc::{AllocError, Global};
@@ -26,8 +27,10 @@ fn site_of(scanned: &Scanned, opened: &Opened, fault: Fault) -> Fault
     ensures { result ≡ site_in scanned.now opened.now fault }
 {
     let Fault { line, value } = fault;
-    let site: Line = scanned.site_of(line);
-    opened.fault_of(Fault { line: site, value })
+    opened.fault_of(Fault {
+        line: scanned.site_of(line),
+        value,
+    })
 }
 
 /// The faults of the design at their sites, in the opened netlist.
@@ -42,7 +45,7 @@ fn site_faults(
 {
     let mut sites = Vec::with_capacity(alloc, faults.len() as usize)?;
     for i in 0..faults.len() {
-        sites.push(site_of(scanned, opened, faults.fault(i)))?;
+        push_fault(&site_of(scanned, opened, faults.fault(i)), &mut sites)?;
     }
     Ok(sites)
 }

@@ -1,7 +1,7 @@
 use Rattle.std.proofs.Common.{◌≤◌, ◌∙◌, Bool, true, Some, length, ap, arith}
 use Rattle.unknown_claims.proofs.NextLemmas.{marked_all, marked_more, skipped_more}
 use Rattle.unknown_claims.proofs.evident.kept.Goals as goal
-use Rattle.unknown_claims.proofs.evident.kept.Goals.{then-is_marked+in_ok-push, else-is_marked}
+use Rattle.unknown_claims.proofs.evident.kept.Goals.{then-is_marked+in_ok-push_fault, else-is_marked}
 
 pub loop-k-preserved : goal.loop-k-preserved
 loop-k-preserved c =
@@ -9,10 +9,10 @@ loop-k-preserved c =
     let faults = c.args.faults.now in
     let k = c.loop-k.k in
     elim c.if-is_marked.branch [
-      | then-is_marked+in_ok-push w ↦
+      | then-is_marked+in_ok-push_fault w ↦
           ap (λ kept. kept.items) w.kept-is
-          ∙ marked_more marks faults k true w.fault_at-line.result c.loop-k.kept.items _ (c.is_marked.ensures ∙ ap (λ (b : Bool). Some b) w.if-is_marked.true) w.fault_at-line.ensures
-          c.loop-k.invariant w.in_ok-push.ensures.items
+          ∙ marked_more marks faults k true w.fault_at.result c.loop-k.kept.items _ (c.is_marked.ensures ∙ ap (λ (b : Bool). Some b) w.if-is_marked.true) w.fault_at.ensures
+          c.loop-k.invariant w.in_ok-push_fault.ensures
       | else-is_marked w ↦
           ap (λ kept. kept.items) w.kept-is
           ∙ skipped_more marks faults k c.loop-k.kept.items (c.is_marked.ensures ∙ ap (λ (b : Bool). Some b) w.if-is_marked.false) c.loop-k.invariant

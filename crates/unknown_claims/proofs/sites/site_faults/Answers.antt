@@ -5,8 +5,8 @@ use Rattle.unknown_claims.proofs.sites.site_faults.Goals as goal
 
 pub loop-i-preserved : goal.loop-i-preserved
 loop-i-preserved c =
-    mapped_more (site_in c.args.scanned.now c.args.opened.now) c.args.faults.now c.loop-i.i c.fault.result c.site_of.result c.loop-i.sites.items c.push.new.self.items
-    c.fault.ensures c.loop-i.invariant c.site_of.ensures c.in_ok-push.ensures.items
+    mapped_more (site_in c.args.scanned.now c.args.opened.now) c.args.faults.now c.loop-i.i c.fault.result c.site_of.result c.loop-i.sites.items c.push_fault.new.faults.items
+    c.fault.ensures c.loop-i.invariant c.site_of.ensures c.in_ok-push_fault.ensures
 
 pub returns : goal.returns
 returns c =
