@@ -1,0 +1,2 @@
+-- What lemmas and checks cite.
+pub mod Named

@@ -1,0 +1,5 @@
+mod ReadingLemmas
+mod CheckLemmas
+mod CompareLemmas
+mod InputLemmas
+mod PlayLemmas

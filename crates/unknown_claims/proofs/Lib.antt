@@ -1,0 +1,3 @@
+pub mod NextLemmas
+mod ShutLemmas
+pub mod FindingLemmas

@@ -1,0 +1,5 @@
+pub mod Claims
+pub mod Reports
+pub mod Reading
+pub mod Laws
+pub mod inner
