@@ -1,5 +1,0 @@
-mod ReadingLemmas
-mod CheckLemmas
-mod CompareLemmas
-mod InputLemmas
-mod PlayLemmas

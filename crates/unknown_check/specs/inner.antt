@@ -1,5 +1,0 @@
-pub mod Reading
-pub mod Inputs
-pub mod Testing
-pub mod Comparing
-pub mod Checking

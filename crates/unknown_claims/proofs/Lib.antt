@@ -1,3 +1,0 @@
-pub mod NextLemmas
-mod ShutLemmas
-pub mod FindingLemmas

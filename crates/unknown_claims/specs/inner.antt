@@ -1,3 +1,0 @@
--- What contracts cite.
-pub mod Sites
-pub mod Marks
