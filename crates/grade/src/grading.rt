@@ -68,7 +68,7 @@ fn grades_told(alloc: Global, unmet: &[Option<Played>]) -> Result<Vec<Grade>, Al
     unmet.iter().map(|one| grade_told(*one)).collect(alloc)
 }
 
-fn grades_by(
+fn grades_of(
     alloc: Global,
     unmet: &[Option<Played>],
     wrong: &[Option<(u64, u32)>],
@@ -101,7 +101,7 @@ fn grades_from(
         return Ok(grades);
     }
     let wrong = first_wrongs(alloc, &OpenGate, core, lines, vectors)?;
-    let grades = grades_by(alloc, unmet, &wrong)?;
+    let grades = grades_of(alloc, unmet, &wrong)?;
     Ok(grades)
 }
 

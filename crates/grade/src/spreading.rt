@@ -1,5 +1,5 @@
 //! The grades of all faults of a design, by one fault of each class.
-ghost use Rattle.std.specs.Prelude.{◌≡◌, ◌<◌, IfOk, length, map};
+ghost use Rattle.std.specs.Prelude.{◌≡◌, ◌^◌, ◌<◌, IfOk, length, map};
 ghost use Rattle.std.specs.List.{All};
 ghost use Rattle.netlist.specs.Lines.{signal_of};
 ghost use Rattle.statement.specs.declared.lines.Fault.{Fault as Stuck};
@@ -12,9 +12,8 @@ ghost use Rattle.grade.specs.inner.ByPatterns.{AreTestCycles};
 ghost use Rattle.grade.specs.inner.Spread.{AreSiteGrades, grade_at};
 
 use crate::by_patterns::pattern_grades;
-use crate::by_play::grades_of;
 use crate::grade::Grade;
-use crate::grading::{answered, begun};
+use crate::grading::{answered, begun, line_grades};
 use crate::laws::patterns_grade;
 use crate::test_patterns::test_patterns;
 use cubes::Pattern;
@@ -24,8 +23,9 @@ use fault_universe::{FaultSet, faults_have_lines, faults_have_signals};
 use netlist::{Core, Fault, NoMemory};
 use outside::Gate;
 use scan_insert::{Chains, Scanned};
+use scan_play::Vectors;
 use std::alloc::{AllocError, Global};
-use stil_vectors::fitting_cycles;
+use stil_vectors::{cycle_count, fitting_cycles, vectors};
 use stil_write::StilFile;
 
 /// A design that is graded: its chains, what insertion makes of them, its faults, and their classes.
@@ -118,6 +118,17 @@ fn core_of(alloc: Global, scanned: &Scanned) -> Result<Core, NoMemory>
     }
 }
 
+/// The cycles of a file, which have to be fewer than 2 to the 64.
+fn cycles_of(alloc: Global, file: &StilFile) -> Result<Vectors, NoMemory>
+    ensures cycles { IfOk result (λ v. v ≡ vectors_in file.now) }
+    ensures few { IfOk result (λ v. length v < 2 ^ 64) }
+{
+    match cycle_count(file) {
+        Some(_) => vectors(alloc, file),
+        None => Err(NoMemory),
+    }
+}
+
 /// The grade of each class, by play of its representative at its site in this core.
 fn grades_in<G: Gate>(
     alloc: Global,
@@ -134,8 +145,9 @@ fn grades_in<G: Gate>(
 {
     file.sound();
     fitting_cycles();
+    let cycles = cycles_of(alloc, file)?;
     let sites = sites_of(alloc, scanned, representatives)?;
-    grades_of(alloc, stage, core, &sites, file)
+    line_grades(alloc, stage, core, &sites, &cycles)
 }
 
 /// The grade of each class, by play of its representative at its site.

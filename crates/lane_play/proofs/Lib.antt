@@ -8,4 +8,3 @@ pub mod ShiftLemmas
 pub mod CountedLemmas
 pub mod PackLemmas
 pub mod ApartLemmas
-pub mod ShownLemmas

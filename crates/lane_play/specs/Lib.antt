@@ -1,4 +1,3 @@
 pub mod Judged
 pub mod Counted
-pub mod Shown
 pub mod inner

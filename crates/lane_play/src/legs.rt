@@ -88,7 +88,7 @@ fn file_team(
 }
 
 /// How many cycles these bursts have.
-pub(crate) fn cycles_in(bursts: &[Burst]) -> u64
+fn cycles_in(bursts: &[Burst]) -> u64
     requires { length (all_cycles bursts.now) < 2 ^ 64 }
     ensures { result ≡ length (all_cycles bursts.now) }
 {

@@ -1,9 +1,8 @@
 //! Faulty machines, played 128 side by side.
 //!
-//! Gives: `play_lanes`, `count_lanes`, `shown_where_strobed`.
+//! Gives: `play_lanes`, `count_lanes`.
 //! Proved: for each stuck line, as if it were played alone, `play_lanes`: exactly what a judge first says of its run in three values; `count_lanes`, of up
-//! to 128: of exactly how many strobes he says something, on either of two sides; `shown_where_strobed`: exactly what the good machine shows wherever a
-//! bit is strobed.
+//! to 128: of exactly how many strobes he says something, on either of two sides.
 //! Tested: run below `chain_test` and `diagnose` by rows of `cases`.
 //! Neither: time.
 #![tactic(auto)]
@@ -20,11 +19,9 @@ mod pins;
 mod planning;
 mod playing;
 mod plays;
-mod showing;
 mod spans;
 mod stuck;
 mod watching;
 
 pub use counting::{Counts, Sides, count_lanes};
 pub use legs::play_lanes;
-pub use showing::shown_where_strobed;

@@ -13,7 +13,6 @@ use Rattle.statement.specs.Runs.{Cycle, Runs}
 use Rattle.scan_play.specs.Judging.{IsOpen, Judging, judged_in}
 use Rattle.scan_play.specs.inner.Steps.{IsStep, PlaysOn}
 use Rattle.lane_play.specs.Counted.{Counting, counted}
-use Rattle.lane_play.specs.Shown.{strobed_rows}
 use Rattle.lane_play.specs.declared.packed.Lanes.{Lanes}
 use Rattle.lane_play.specs.inner.Counts.{number_at}
 use Rattle.lane_play.specs.inner.Lanes.{lanes, lanes_rule, unknown}
@@ -73,14 +72,3 @@ CountsOn counts f n cycles state after number =
 pub record AreCountedOn (counts : Counting) (faults : List Fault) (n : Netlist) (cycles : List Cycle) (state : List Lanes) (numbers : List ℕ) : Type 0 where
   pub size : length numbers ≡ length faults
   pub each : (k : ℕ) → k < length faults → CountsOn counts (slice_get faults k) n cycles (replicate (length (cells n)) X) (lanes k state) (number_at numbers k)
-
--- These cycles were played, whatever comes behind them: what is shown wherever a bit is strobed is this, and then that of the run that goes on from what
--- the cells then hold.
-abbrev pub ShowsOn : Option Fault → Netlist → List Cycle → List Tri → List Tri → List Tri → Type 0
-ShowsOn f n cycles state after values =
-    (rest : List Cycle) (shown : List (List Tri)) → Runs tri_table f n state (cycles ++ rest) shown
-    → (later : List (List Tri)) × Runs tri_table f n after rest later × (strobed_rows (cycles ++ rest) shown ≡ values ++ strobed_rows rest later)
-
--- the same of the first machine, from all cells X
-abbrev pub IsShownOn : List Fault → Netlist → List Cycle → List Lanes → List Tri → Type 0
-IsShownOn faults n cycles state values = ShowsOn (slice_get faults 0) n cycles (replicate (length (cells n)) X) (lanes 0 state) values

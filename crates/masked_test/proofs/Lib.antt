@@ -1,9 +1,0 @@
-mod KnownLemmas
-mod KnownCycles
-mod KnownFiles
-mod MetLemmas
-mod WordLemmas
-mod ItemLemmas
-mod FormLemmas
-mod MaskLemmas
-mod LoopLemmas

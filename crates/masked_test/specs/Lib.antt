@@ -1,4 +1,0 @@
-pub mod Known
-pub mod Masked
-pub mod Laws
-pub mod inner
