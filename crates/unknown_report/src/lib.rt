@@ -5,7 +5,7 @@
 //!
 //! Gives: `Claim`, `ClaimCounts`, `UnknownReport`, `counts_of`, `push_claim_line`, `write_unknown_report`, `read_unknown_report`.
 //! Proved: each exactly: the line of a claim, the counts of claims, and a report's one text; `unknown_texts_tell_reports`: no two reports have one text.
-//! Tested: run by the command `run --unknown`, by rows of `cases`.
+//! Tested: nothing; no command calls it yet.
 //! Neither: time.
 #![tactic(auto)]
 
